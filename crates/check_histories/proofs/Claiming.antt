@@ -1,13 +1,5 @@
 -- What follows from the plain tests for worked histories.
-use Rattle.std.specs.List.{list_all}
-use Rattle.std.proofs.Common.{◌≡◌, ◌≢◌, ℕ, suc, true, List, [], ◌∷◌, ◌++◌, take, None, subst}
-use Rattle.kpn_net.specs.Tables.{Tables}
-use Rattle.kpn_net.specs.Faults.{first_network_fault}
-use Rattle.kpn_history.specs.declared.event.Event.{Event}
-use Rattle.kpn_history.specs.declared.event.Event.TheVariants.{Grow}
-use Rattle.kpn_history.specs.Legal.{MayFollow, Legal, growth_after}
-use Rattle.kpn_history.proofs.EndTests.{is_quiet, is_quiet-true, is_ended, is_ended-true}
-use Rattle.kpn_history.proofs.Legality.{Legal-last}
+use Rattle.check_histories.proofs.Common.{list_all, ◌≡◌, ◌≢◌, ℕ, suc, true, List, [], ◌∷◌, ◌++◌, take, None, subst, Tables, first_network_fault, Event, Grow, MayFollow, Legal, growth_after, is_quiet, is_quiet-true, is_ended, is_ended-true, Legal-last}
 use Rattle.check_histories.specs.Claims.{RunsToItsEnd, BreaksAt}
 use Rattle.check_histories.proofs.GrowthTests.{grows, grows-owed, owes_none, owes_none-true}
 use Rattle.check_histories.proofs.NetworkTests.{is_program, network-true}

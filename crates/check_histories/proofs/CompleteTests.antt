@@ -1,21 +1,8 @@
 -- Plain tests of finished processes and of complete channels. A set of processes is given, or the waits are followed.
-use Rattle.std.specs.List.{list_all}
-use Rattle.std.specs.Prelude.{Contains}
-use Rattle.std.proofs.Common.{◌≡◌, ℕ, zero, suc, Bool, true, false, not, ◌&&◌, ◌||◌, List, [], ◌∷◌, refl, sym, ◌∙◌, subst, inl, inr}
-use Rattle.std.proofs.lemmas.Bool.{and_parts, or_cases, both_ways, not-true}
+use Rattle.check_histories.proofs.Common.{list_all, Contains, ◌≡◌, ℕ, zero, suc, Bool, true, false, not, ◌&&◌, ◌||◌, List, [], ◌∷◌, refl, sym, ◌∙◌, subst, inl, inr, and_parts, or_cases, both_ways, not-true, Wait, Nobody, Empty, Full, Tables, writer_of, Contains-none, Contains-cases, Event, has_ended, is_closed, wait_of, PutsNoMore, StarvesAmong, IsFinished, IsComplete, WaitsOnComplete, member, member-true}
 use Rattle.kpn_net.specs.declared.tables.End.{End}
 use Rattle.kpn_net.specs.declared.tables.End.TheVariants.{Process, Source, Sink}
-use Rattle.kpn_net.specs.declared.wait.Wait.{Wait}
-use Rattle.kpn_net.specs.declared.wait.Wait.TheVariants.{Nobody, Empty, Full}
-use Rattle.kpn_net.specs.Tables.{Tables, writer_of}
-use Rattle.kpn_net.proofs.Cycles.{Contains-none, Contains-cases}
-use Rattle.kpn_history.specs.declared.event.Event.{Event}
-use Rattle.kpn_history.specs.Talks.{has_ended}
-use Rattle.kpn_history.specs.Channels.{is_closed}
-use Rattle.kpn_history.specs.Waiting.{wait_of}
-use Rattle.kpn_history.specs.Complete.{PutsNoMore, StarvesAmong, IsFinished, IsComplete, WaitsOnComplete}
 use Rattle.kpn_history.proofs.Finished.{complete_among, finished_cases}
-use Rattle.kpn_history.proofs.Searching.{member, member-true}
 
 module _ (t : Tables) (H : List Event) where
   -- ---- complete channels

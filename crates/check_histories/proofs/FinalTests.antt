@@ -1,16 +1,7 @@
 -- Plain tests of final runs.
-use Rattle.std.proofs.Common.{◌≡◌, ℕ, zero, suc, true, List, [], refl, subst}
-use Rattle.std.proofs.lemmas.Bool.{false≢true}
-use Rattle.kpn_lang.specs.Prefix.{IsPrefix}
-use Rattle.kpn_net.specs.Tables.{Tables, channel_at, is_source}
-use Rattle.kpn_net.specs.Process.{Family}
-use Rattle.kpn_net.specs.Iteration.{IsPrefixOnSources}
-use Rattle.kpn_history.specs.declared.event.Event.{Event}
-use Rattle.kpn_history.specs.Channels.{fed}
-use Rattle.kpn_history.specs.Complete.{IsFedFrom}
+use Rattle.check_histories.proofs.Common.{◌≡◌, ℕ, zero, suc, true, List, [], refl, subst, false≢true, IsPrefix, Tables, channel_at, is_source, Family, IsPrefixOnSources, Event, fed, IsFedFrom, is_settled, is_settled-true}
 use Rattle.kpn_history.specs.OneEnd.{IsRunFrom, IsFinalRun}
 use Rattle.kpn_history.proofs.Complete.{IsFedFrom-fed}
-use Rattle.kpn_history.proofs.EndTests.{is_settled, is_settled-true}
 use Rattle.check_histories.specs.Networks.{copy_network, resolved_network}
 use Rattle.check_histories.specs.Runs.{copy_run, left_after_one_run, early_close_run}
 use Rattle.check_histories.proofs.GrowthTests.{owes_none, owes_none-true}

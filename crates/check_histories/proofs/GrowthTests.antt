@@ -1,25 +1,8 @@
 -- Plain tests of which growth a history owes, and what follows from a yes of each.
-use Rattle.std.specs.Prelude.{nat_eq, nat_lt}
-use Rattle.std.specs.List.{last_or}
-use Rattle.std.proofs.Common.{◌≡◌, ℕ, ◌<◌, ◌⊎◌, inl, inr, Bool, true, false, not, ◌&&◌, ◌||◌, List, [], ◌∷◌, length, Option, Some, None, refl, sym, ap, subst, ◌∙◌, eq-eqb, arith}
-use Rattle.std.proofs.lemmas.Bool.{and_parts, and_from, or_cases, or_left, or_right, eqb-true, ltb-true, ltb-false, not-true, both_ways, cases_Bool}
+use Rattle.check_histories.proofs.Common.{nat_eq, nat_lt, last_or, ◌≡◌, ℕ, ◌<◌, ◌⊎◌, inl, inr, Bool, true, false, not, ◌&&◌, ◌||◌, List, [], ◌∷◌, length, Option, Some, None, refl, sym, ap, subst, ◌∙◌, eq-eqb, arith, and_parts, and_from, or_cases, or_left, or_right, eqb-true, ltb-true, ltb-false, not-true, both_ways, cases_Bool, Wait, Nobody, Empty, Full, Tables, IsSmallest, awaited_as_full, Event, has_ended, capacity_or_zero, wait_of, waits_of, full_in_cycle, HasStopped, IsSettled, waiter_of_last, OwesCycleGrowth, OwesStopGrowth, OwesGrowth, growth_after, smallest_unique, each_below, each_below-at, each_below-fails, Way, Round, Off, Lost, Allows, way_round, way_round-allows, way_round-cycle, is_nobody, is_settled, is_settled-true}
 use Rattle.kpn_net.specs.declared.tables.Policy.{Policy}
 use Rattle.kpn_net.specs.declared.tables.Policy.TheVariants.{Cycles, All}
-use Rattle.kpn_net.specs.declared.wait.Wait.{Wait}
-use Rattle.kpn_net.specs.declared.wait.Wait.TheVariants.{Nobody, Empty, Full}
-use Rattle.kpn_net.specs.Tables.{Tables}
-use Rattle.kpn_net.specs.Waits.{IsSmallest, awaited_as_full}
-use Rattle.kpn_history.specs.declared.event.Event.{Event}
-use Rattle.kpn_history.specs.Talks.{has_ended}
-use Rattle.kpn_history.specs.Channels.{capacity_or_zero}
-use Rattle.kpn_history.specs.Waiting.{wait_of, waits_of, full_in_cycle}
-use Rattle.kpn_history.specs.Ends.{HasStopped, IsSettled}
-use Rattle.kpn_history.specs.Legal.{waiter_of_last, OwesCycleGrowth, OwesStopGrowth, OwesGrowth, growth_after}
-use Rattle.kpn_net.proofs.Cycles.{smallest_unique}
-use Rattle.kpn_history.proofs.Searching.{each_below, each_below-at, each_below-fails, Way, Round, Off, Lost, Allows}
 use Rattle.kpn_history.proofs.Growth.{last_waiter}
-use Rattle.kpn_history.proofs.Checking.{way_round, way_round-allows, way_round-cycle, is_nobody}
-use Rattle.kpn_history.proofs.EndTests.{is_settled, is_settled-true}
 use Rattle.check_histories.proofs.ListTests.{is_smallest, smallest, is_smallest-true}
 
 -- ---- growth for a cycle

@@ -1,25 +1,7 @@
 -- Plain tests of orders of the events of parts. If they say yes, the run is joined, at rest, or has nothing on the way.
-use Rattle.std.specs.Prelude.{nat_lt, if◌then◌else◌}
-use Rattle.std.specs.Ordering.{int_eq}
-use Rattle.std.specs.List.{list_all}
-use Rattle.std.proofs.Common.{◌≡◌, ℕ, suc, ◌≤◌, Bool, true, ◌&&◌, ◌||◌, List, [], ◌∷◌, ◌++◌, length, take, refl, sym, ap, ◌∙◌, subst, inl, inr, arith}
-use Rattle.std.proofs.lemmas.Bool.{and_parts, ltb-true, or_cases, cases_lt, both_ways}
-use Rattle.std.proofs.lemmas.Bool.Decides.{Decides-int_eq}
-use Rattle.std.proofs.lemmas.List.{get_or_past, take-append-le}
-use Rattle.kpn_lang.specs.Prefix.{IsPrefix}
-use Rattle.kpn_lang.proofs.Prefixes.{rest_of_prefix, length_of_prefix}
-use Rattle.kpn_net.specs.Tables.{Tables, channel_at, is_source}
+use Rattle.check_histories.proofs.Common.{nat_lt, if◌then◌else◌, int_eq, list_all, ◌≡◌, ℕ, suc, ◌≤◌, Bool, true, ◌&&◌, ◌||◌, List, [], ◌∷◌, ◌++◌, length, take, refl, sym, ap, ◌∙◌, subst, inl, inr, arith, and_parts, ltb-true, or_cases, cases_lt, both_ways, Decides-int_eq, get_or_past, take-append-le, IsPrefix, rest_of_prefix, length_of_prefix, Tables, channel_at, is_source, Event, written_on, Legal, IsQuiet, is_quiet, is_quiet-true, Legal-nil, each_below, each_below-at, Part, whole_channel, empty_part, part_at, IsCutSource, events_of_part, whole_history, IsSent, IsJoined, IsDelivered, AreQuiet}
 use Rattle.kpn_net.proofs.Networks.{source_there}
-use Rattle.kpn_history.specs.declared.event.Event.{Event}
-use Rattle.kpn_history.specs.Channels.{written_on}
-use Rattle.kpn_history.specs.Legal.{Legal}
-use Rattle.kpn_history.specs.Ends.{IsQuiet}
-use Rattle.kpn_history.proofs.EndTests.{is_quiet, is_quiet-true}
-use Rattle.kpn_history.proofs.Legality.{Legal-nil}
-use Rattle.kpn_history.proofs.Searching.{each_below, each_below-at}
 use Rattle.kpn_parts.specs.declared.order.PartEvent.{PartEvent}
-use Rattle.kpn_parts.specs.Cut.{Part, whole_channel, empty_part, part_at, IsCutSource}
-use Rattle.kpn_parts.specs.Joined.{events_of_part, whole_history, IsSent, IsJoined, IsDelivered, AreQuiet}
 use Rattle.kpn_parts.proofs.Orders.{event_of-other}
 use Rattle.check_histories.proofs.ListTests.{begins, equals, begins-true, equals-true}
 use Rattle.check_histories.proofs.Passing.{passes, passes-legal}

@@ -1,3 +1,4 @@
+pub mod Common
 pub mod ListTests
 pub mod NetworkTests
 pub mod GrowthTests

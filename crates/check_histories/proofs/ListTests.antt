@@ -1,12 +1,5 @@
 -- Plain tests of lists, and what follows from a yes of each: beginnings, equal lists, and the smallest channel.
-use Rattle.std.specs.Prelude.{nat_eq, nat_lt, nat_le, Contains, if◌then◌else◌}
-use Rattle.std.specs.List.{list_all}
-use Rattle.std.proofs.Common.{◌≡◌, ℕ, ◌<◌, ◌≤◌, ◌⊎◌, inl, inr, Bool, true, false, ◌&&◌, ◌||◌, List, [], ◌∷◌, Option, Some, None, refl, subst}
-use Rattle.std.proofs.lemmas.Bool.{and_parts, or_cases, eqb-true, ltb-true, leb-true}
-use Rattle.kpn_lang.specs.Prefix.{IsPrefix}
-use Rattle.kpn_net.specs.Waits.{IsSmallest}
-use Rattle.kpn_net.proofs.Cycles.{Contains-none, Contains-cases}
-use Rattle.kpn_history.proofs.Searching.{member, member-true}
+use Rattle.check_histories.proofs.Common.{nat_eq, nat_lt, nat_le, Contains, if◌then◌else◌, list_all, ◌≡◌, ℕ, ◌<◌, ◌≤◌, ◌⊎◌, inl, inr, Bool, true, false, ◌&&◌, ◌||◌, List, [], ◌∷◌, Option, Some, None, refl, subst, and_parts, or_cases, eqb-true, ltb-true, leb-true, IsPrefix, IsSmallest, Contains-none, Contains-cases, member, member-true}
 
 -- ---- beginnings of lists, and equal lists
 

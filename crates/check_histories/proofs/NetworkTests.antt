@@ -1,13 +1,8 @@
 -- A plain test of tables. If it says yes, they keep the rules of a network, and no program has cells.
-use Rattle.std.specs.Prelude.{nat_le, ◌==◌}
-use Rattle.std.specs.List.{list_all}
-use Rattle.std.proofs.Common.{◌≡◌, ℕ, zero, suc, ◌+◌, ◌<◌, Bool, true, false, ◌&&◌, List, [], ◌∷◌, length, get_or, Option, Some, None, refl, arith}
-use Rattle.std.proofs.lemmas.Bool.{and_parts, leb-true, eqb-true}
+use Rattle.check_histories.proofs.Common.{nat_le, ◌==◌, list_all, ◌≡◌, ℕ, zero, suc, ◌+◌, ◌<◌, Bool, true, false, ◌&&◌, List, [], ◌∷◌, length, get_or, Option, Some, None, refl, arith, and_parts, leb-true, eqb-true, Tables, first_network_fault, IsNetwork}
 use Rattle.kpn_lang.specs.declared.program.ProgramFault.{ProgramFault}
 use Rattle.kpn_lang.specs.Parts as parts
 use Rattle.kpn_lang.specs.Parts.{Parts, IsProgram}
-use Rattle.kpn_net.specs.Tables.{Tables}
-use Rattle.kpn_net.specs.Faults.{first_network_fault, IsNetwork}
 
 abbrev is_none : Option ProgramFault → Bool
 is_none None = true

@@ -1,29 +1,11 @@
 -- A plain checker of histories. Before each event it computes, with a number of turns for each loop, what each process
 -- says and where it ends, and follows the waits. If it says yes, the history is legal.
-use Rattle.std.specs.Prelude.{nat_eq, nat_lt, nat_le, if◌then◌else◌, slice_get}
-use Rattle.std.specs.Ordering.{int_eq}
-use Rattle.std.proofs.Common.{◌≡◌, ◌≢◌, ℕ, ◌<◌, ◌≤◌, ℤ, Bool, true, false, not, ◌&&◌, List, [], ◌∷◌, ◌++◌, length, Option, Some, None, refl, ap, subst, ◌∙◌, append_assoc, arith}
-use Rattle.std.proofs.lemmas.List.{append-nil}
-use Rattle.std.proofs.lemmas.Bool.{and_parts, eqb-true, ltb-true, leb-true, not-true}
-use Rattle.std.proofs.lemmas.Bool.Decides.{Decides-int_eq}
+use Rattle.check_histories.proofs.Common.{nat_eq, nat_lt, nat_le, if◌then◌else◌, slice_get, int_eq, ◌≡◌, ◌≢◌, ℕ, ◌<◌, ◌≤◌, ℤ, Bool, true, false, not, ◌&&◌, List, [], ◌∷◌, ◌++◌, length, Option, Some, None, refl, ap, subst, ◌∙◌, append_assoc, arith, append-nil, and_parts, eqb-true, ltb-true, leb-true, not-true, Decides-int_eq, IsPrefix, Wait, Nobody, Empty, Full, Tables, channel_at, is_source, is_sink, larger_capacity, ProcessCanSay, ProcessComesTo, talk_on, ending_on, Event, Get, Put, WaitEmpty, WaitFull, Ended, Feed, Close, Take, Leave, Grow, talk_of, has_ended, written_on, read_on, unread_on, is_closed, is_left, reader_lives, capacity_after, capacity_or_zero, is_empty, is_full, wait_of, IsConsistent, OwesGrowth, HasNumbers, CanGo, ending_of, ComesToWrite, MayFeed, MayTake, IsDue, MayFollow, Legal, growth_after, each_below, each_below-at, is_nobody}
 use Rattle.kpn_lang.specs.declared.value.Fault.TheVariants as fault
 use Rattle.kpn_lang.specs.declared.talk.Said.{Said}
 use Rattle.kpn_lang.specs.declared.talk.Said.TheVariants as said
 use Rattle.kpn_lang.specs.declared.talk.Ending.{Ending}
 use Rattle.kpn_lang.specs.declared.talk.Ending.TheVariants as ending
-use Rattle.kpn_lang.specs.Prefix.{IsPrefix}
-use Rattle.kpn_net.specs.declared.wait.Wait.{Wait}
-use Rattle.kpn_net.specs.declared.wait.Wait.TheVariants.{Nobody, Empty, Full}
-use Rattle.kpn_net.specs.Tables.{Tables, channel_at, is_source, is_sink, larger_capacity}
-use Rattle.kpn_net.specs.Process.{ProcessCanSay, ProcessComesTo, talk_on, ending_on}
-use Rattle.kpn_history.specs.declared.event.Event.{Event}
-use Rattle.kpn_history.specs.declared.event.Event.TheVariants.{Get, Put, WaitEmpty, WaitFull, Ended, Feed, Close, Take, Leave, Grow}
-use Rattle.kpn_history.specs.Talks.{talk_of, has_ended}
-use Rattle.kpn_history.specs.Channels.{written_on, read_on, unread_on, is_closed, is_left, reader_lives, capacity_after, capacity_or_zero, is_empty, is_full}
-use Rattle.kpn_history.specs.Waiting.{wait_of}
-use Rattle.kpn_history.specs.Legal.{IsConsistent, OwesGrowth, HasNumbers, CanGo, ending_of, ComesToWrite, MayFeed, MayTake, IsDue, MayFollow, Legal, growth_after}
-use Rattle.kpn_history.proofs.Searching.{each_below, each_below-at}
-use Rattle.kpn_history.proofs.Checking.{is_nobody}
 use Rattle.check_histories.proofs.GrowthTests.{grows, grows-owed, grows-one, owes_none, owes_none-true}
 use Rattle.check_histories.proofs.ListTests.{begins, equals, begins-true, equals-true}
 

@@ -1,15 +1,8 @@
 -- Each iterate of the ring is empty: a copy puts nothing on a list on which there is nothing.
-use Rattle.std.proofs.Common.{◌≡◌, ℕ, zero, suc, [], ◌∷◌, map, refl, ap, ◌∙◌, subst}
-use Rattle.kpn_lang.specs.Prefix.{IsPrefix}
+use Rattle.check_histories.proofs.Common.{◌≡◌, ℕ, zero, suc, [], ◌∷◌, map, refl, ap, ◌∙◌, subst, IsPrefix, program_at, instance_at, Family, at_channel, out_of, round, IsBelowLeast, written_on, whole_history, IsJoined, fed}
 use Rattle.kpn_lang.specs.Alone.{alone, put_at}
-use Rattle.kpn_net.specs.Tables.{program_at, instance_at}
-use Rattle.kpn_net.specs.Process.{Family, at_channel, out_of}
-use Rattle.kpn_net.specs.Iteration.{round, IsBelowLeast}
-use Rattle.kpn_history.specs.Channels.{written_on}
-use Rattle.kpn_parts.specs.Joined.{whole_history, IsJoined}
 use Rattle.kpn_parts.proofs.Below.{below_least}
 use Rattle.kpn_net.proofs.Monotone.{IsPrefixOnSources-refl}
-use Rattle.kpn_history.specs.Channels.{fed}
 use Rattle.check_histories.specs.Networks.{copy_network}
 use Rattle.check_histories.specs.Cuts.{ring_network, ring_cut}
 use Rattle.check_histories.specs.Orders.{ring_order}

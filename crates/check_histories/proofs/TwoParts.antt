@@ -1,9 +1,5 @@
 -- The cuts of the worked networks are cuts.
-use Rattle.std.specs.Prelude.{slice_index_or}
-use Rattle.std.proofs.Common.{◌≡◌, ℕ, zero, suc, ◌<◌, lit<, List, [], ◌∷◌, length, refl, sym, arith}
-use Rattle.kpn_net.specs.Tables.{Tables}
-use Rattle.kpn_net.specs.Faults.{IsNetwork}
-use Rattle.kpn_parts.specs.Cut.{Part, whole_process, part_at, IsSameProcess, IsPart, HasHome, IsCut}
+use Rattle.check_histories.proofs.Common.{slice_index_or, ◌≡◌, ℕ, zero, suc, ◌<◌, lit<, List, [], ◌∷◌, length, refl, sym, arith, Tables, IsNetwork, Part, whole_process, part_at, IsSameProcess, IsPart, HasHome, IsCut}
 use Rattle.check_histories.specs.Networks.{copy_network}
 use Rattle.check_histories.proofs.NetworkTests.{network-true}
 use Rattle.check_histories.specs.Cuts.{copy_part, chain_network, chain_cut, ring_network, ring_cut}

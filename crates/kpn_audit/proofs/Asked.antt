@@ -1,18 +1,7 @@
 -- What a process that stands at a read or a write is doing. An event of no process that is not one of the outside is a
 -- growth.
 use Rattle.std.proofs.Common.{◌≡◌, ◌≢◌, ℕ, Bool, true, false, ℤ, List, Option, refl, sym, subst, eq-eqb}
-use Rattle.kpn_net.specs.Tables.{Tables, instance_at}
-use Rattle.kpn_history.specs.declared.event.Event.{Event}
-use Rattle.kpn_history.specs.declared.event.Event.TheVariants.{Feed, Close, Take, Leave, Grow}
-use Rattle.kpn_history.specs.Talks.{is_of_process}
-use Rattle.kpn_history.specs.Channels.{is_growth_of}
-use Rattle.kpn_step.specs.declared.stop.Stop.TheVariants.{WantRead, WantWrite}
-use Rattle.kpn_chan.specs.Channel.{is_channel_full, next_item}
-use Rattle.kpn_machine.specs.Machine.{Machine, channel_in, IsFree}
-use Rattle.kpn_machine.specs.Changes.{IsChannelAt}
-use Rattle.kpn_machine.specs.Due.{Stands}
-use Rattle.kpn_audit.specs.declared.scene.Doing.TheVariants.{Reads, Writes}
-use Rattle.kpn_audit.specs.Scene.{IsDoing}
+use Rattle.kpn_audit.proofs.Common.{Tables, instance_at, Event, Feed, Close, Take, Leave, Grow, is_of_process, is_growth_of, WantRead, WantWrite, is_channel_full, next_item, Machine, channel_in, IsFree, IsChannelAt, Stands, Reads, Writes, IsDoing}
 
 -- what a free process at a read or a write is doing
 module _ (t : Tables) (H : List Event) (event : Event) (quota : ℕ) (s : Machine) (p c : ℕ) (free : IsFree s p)

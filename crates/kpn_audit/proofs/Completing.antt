@@ -1,21 +1,9 @@
 -- The list of complete channels, entry by entry, and what it says of the journals.
-use Rattle.std.proofs.Common.{◌≡◌, ◌↔◌, ℕ, ◌+◌, ◌<◌, Bool, true, false, IsTrue, List, [], ◌∷◌, ◌++◌, length, get_or, sym, ap, ◌∙◌, subst, inl, inr, arith, length-append}
-use Rattle.std.proofs.lemmas.Bool.{cases_lt}
-use Rattle.std.proofs.lemmas.List.{get_or_append_left, get_or_push}
-use Rattle.std.proofs.lemmas.List.FromFn.{get_or-map-range_with_len}
-use Rattle.kpn_net.specs.Tables.{Tables}
-use Rattle.kpn_net.specs.Faults.{IsNetwork}
+use Rattle.kpn_audit.proofs.Common.{◌≡◌, ◌↔◌, ℕ, ◌+◌, ◌<◌, Bool, true, false, IsTrue, List, [], ◌∷◌, ◌++◌, length, get_or, sym, ap, ◌∙◌, subst, inl, inr, arith, length-append, cases_lt, get_or_append_left, get_or_push, get_or-map-range_with_len, Tables, IsNetwork, IsLeast, Event, written_on, Machine, IsRun, Audit, IsAudit}
 use Rattle.kpn_net.specs.Process.{Family}
-use Rattle.kpn_net.specs.Iteration.{IsLeast}
-use Rattle.kpn_history.specs.declared.event.Event.{Event}
-use Rattle.kpn_history.specs.Channels.{written_on}
 use Rattle.kpn_history.specs.Complete.{IsComplete, IsFedFrom}
 use Rattle.kpn_history.proofs.Complete.{least_if_complete}
-use Rattle.kpn_machine.specs.Machine.{Machine}
-use Rattle.kpn_machine.specs.Run.{IsRun}
 use Rattle.kpn_audit.specs.Complete.{TellsComplete}
-use Rattle.kpn_audit.specs.declared.findings.Audit.{Audit}
-use Rattle.kpn_audit.specs.Audit.{IsAudit}
 
 -- the entries of the first channels
 pub record ToldSoFar (t : Tables) (s : Machine) (n : ℕ) (complete : List Bool) : Type 0 where

@@ -1,28 +1,9 @@
 -- What holds once an event was made, and once a process was stepped.
-use Rattle.std.proofs.Common.{◌≡◌, ◌≢◌, ℕ, ◌+◌, ◌<◌, true, false, eqb, List, [], ◌∷◌, ◌++◌, length, Option, Some, None, refl, sym, ap, ◌∙◌, subst, inl, inr}
-use Rattle.std.specs.Prelude.{IfSome}
+use Rattle.kpn_audit.proofs.Common.{◌≡◌, ◌≢◌, ℕ, ◌+◌, ◌<◌, true, false, eqb, List, [], ◌∷◌, ◌++◌, length, Option, Some, None, refl, sym, ap, ◌∙◌, subst, inl, inr, IfSome, Tables, program_of, IsNetwork, Stop, Frame, Steps, Steps-append, Event, Get, Put, WaitEmpty, WaitFull, Ended, is_of, waiter, OwesStopGrowth, Legal, OwesNothing, OwesNoCycleGrowth, OwesNoStopGrowth, lets_go_on, no_cycle_owed_after, IsFrameAfter, Machine, end_in, wait_in, frame_in, with_frame, IsFree, IsRun, OwedGrowth, Judged, IsStopped, AllGoBy, Owes, IsMade, IsMoved, IsJudged}
 use Rattle.std.proofs.lemmas.Bool.{eqb-true, eq-eqb, both_ways, false≢true}
-use Rattle.kpn_net.specs.Tables.{Tables, program_of}
-use Rattle.kpn_net.specs.Faults.{IsNetwork}
-use Rattle.kpn_step.specs.declared.stop.Stop.{Stop}
-use Rattle.kpn_step.specs.Frame.{Frame}
-use Rattle.kpn_step.specs.Step.{Steps}
-use Rattle.kpn_step.proofs.StepCases.{Steps-append}
-use Rattle.kpn_history.specs.declared.event.Event.{Event}
-use Rattle.kpn_history.specs.declared.event.Event.TheVariants.{Get, Put, WaitEmpty, WaitFull, Ended}
-use Rattle.kpn_history.specs.Talks.{is_of}
-use Rattle.kpn_history.specs.Legal.{waiter, OwesStopGrowth, Legal}
-use Rattle.kpn_history.specs.Stops.{OwesNothing, OwesNoCycleGrowth, OwesNoStopGrowth, lets_go_on}
-use Rattle.kpn_history.proofs.Growth.{no_cycle_owed_after}
 use Rattle.kpn_history.proofs.OwedGrowth.{no_stop_owed_after}
-use Rattle.kpn_machine.specs.Changes.{IsFrameAfter}
-use Rattle.kpn_machine.specs.Machine.{Machine, end_in, wait_in, frame_in, with_frame, IsFree}
 use Rattle.kpn_machine.specs.Owed.{IsOwedAtStop, IsAwaitedBelowLimit}
-use Rattle.kpn_machine.specs.Run.{IsRun}
-use Rattle.kpn_machine.specs.declared.machine.growth.OwedGrowth.{OwedGrowth}
-use Rattle.kpn_audit.specs.declared.judged.Judged.{Judged}
 use Rattle.kpn_audit.specs.declared.judged.Judged.TheVariants.{Follows, Illegal, Budget}
-use Rattle.kpn_audit.specs.Judged.{IsStopped, AllGoBy, Owes, IsMade, IsMoved, IsJudged}
 
 -- ---- frames
 

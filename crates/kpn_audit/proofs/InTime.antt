@@ -1,19 +1,7 @@
 -- Steps to a stop within those that are allowed, and that a history has one place for each process.
-use Rattle.std.proofs.Common.{◌≡◌, ◌≢◌, ℕ, zero, suc, ◌+◌, ◌-◌, ◌≤◌, Bool, true, false, nat_eq, List, [], ◌∷◌, refl, sym, ap, ◌∙◌, subst, arith}
+use Rattle.kpn_audit.proofs.Common.{◌≡◌, ◌≢◌, ℕ, zero, suc, ◌+◌, ◌-◌, ◌≤◌, Bool, true, false, nat_eq, List, [], ◌∷◌, refl, sym, ap, ◌∙◌, subst, arith, Tables, instance_at, program_of, Stop, Paused, Frame, start_frame, Step, Stops, Faults, Goes, step_of, Steps, StandsAt, IsBetween, stop_at, Steps-append, Event, Get, Put, is_of, IsFrameAfter, StopsWithin, GoesBy, ComesBy, IsPlaceAfter}
 use Rattle.std.proofs.lemmas.Bool.{eqb-true, eq-eqb}
 use Rattle.kpn_lang.specs.Syntax.{Statement}
-use Rattle.kpn_net.specs.Tables.{Tables, instance_at, program_of}
-use Rattle.kpn_step.specs.declared.stop.Stop.{Stop}
-use Rattle.kpn_step.specs.declared.stop.Stop.TheVariants.{Paused}
-use Rattle.kpn_step.specs.Frame.{Frame, start_frame}
-use Rattle.kpn_step.specs.Step.{Step, Stops, Faults, Goes, step_of, Steps}
-use Rattle.kpn_step.specs.Stops.{StandsAt, IsBetween, stop_at}
-use Rattle.kpn_step.proofs.StepCases.{Steps-append}
-use Rattle.kpn_history.specs.declared.event.Event.{Event}
-use Rattle.kpn_history.specs.declared.event.Event.TheVariants.{Get, Put}
-use Rattle.kpn_history.specs.Talks.{is_of}
-use Rattle.kpn_machine.specs.Changes.{IsFrameAfter}
-use Rattle.kpn_audit.specs.Place.{StopsWithin, GoesBy, ComesBy, IsPlaceAfter}
 
 -- ---- what the stop of a call says
 

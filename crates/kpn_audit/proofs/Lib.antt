@@ -1,3 +1,4 @@
+pub mod Common
 pub mod InTime
 pub mod OneFinding
 pub mod Refused

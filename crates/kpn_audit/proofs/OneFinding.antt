@@ -1,22 +1,9 @@
 -- An audit has one finding: events within their steps are none that is out of steps, and the first that is illegal is
 -- one event.
-use Rattle.std.proofs.Common.{◌≡◌, ◌≢◌, inl, inr, ℕ, zero, suc, ◌<◌, ◌≤◌, List, [], ◌∷◌, length, take, Some, slice_get, refl, sym, ap, ◌∙◌, subst, arith}
-use Rattle.std.proofs.lemmas.Bool.{cases_order}
+use Rattle.kpn_audit.proofs.Common.{◌≡◌, ◌≢◌, inl, inr, ℕ, zero, suc, ◌<◌, ◌≤◌, List, [], ◌∷◌, length, take, Some, slice_get, refl, sym, ap, ◌∙◌, subst, arith, cases_order, IsPrefix, Tables, program_of, Event, CanGo, Legal, OwesNothing, Legal-prefix, AuditFault, StopsWithin, Scene, Elsewhere, IsWithinSteps, AreWithinSteps, IsOutOfSteps, IsIllegalAt, IsBudgetAt, ComesInTime, IsFault, IsScene, IsSceneAt}
 use Rattle.std.proofs.lemmas.Option.{slice_get_within}
-use Rattle.kpn_lang.specs.Prefix.{IsPrefix}
-use Rattle.kpn_net.specs.Tables.{Tables, program_of}
-use Rattle.kpn_history.specs.declared.event.Event.{Event}
-use Rattle.kpn_history.specs.Legal.{CanGo, Legal}
-use Rattle.kpn_history.specs.Stops.{OwesNothing}
-use Rattle.kpn_history.proofs.Legality.{Legal-prefix}
-use Rattle.kpn_audit.specs.declared.findings.AuditFault.{AuditFault}
 use Rattle.kpn_audit.specs.declared.findings.AuditFault.TheVariants.{Illegal, NoMemory, Budget, PolicyDiffers}
-use Rattle.kpn_audit.specs.Place.{StopsWithin}
-use Rattle.kpn_audit.specs.declared.scene.Scene.{Scene}
 use Rattle.kpn_audit.specs.declared.scene.Scene.TheVariants.{Process}
-use Rattle.kpn_audit.specs.declared.scene.Doing.TheVariants.{Elsewhere}
-use Rattle.kpn_audit.specs.Audit.{IsWithinSteps, AreWithinSteps, IsOutOfSteps, IsIllegalAt, IsBudgetAt, ComesInTime, IsFault}
-use Rattle.kpn_audit.specs.Scene.{IsScene, IsSceneAt}
 use Rattle.kpn_audit.proofs.InTime.{one_place, not_out_of_steps}
 
 begins : (H : List Event) (n m : ℕ) → n ≤ m → IsPrefix (take n H) (take m H)

@@ -1,19 +1,6 @@
 -- Why an event may not follow: it is not due, or its numbers are not there.
-use Rattle.std.proofs.Common.{◌≡◌, ℕ, Bool, true, false, List, [], ◌∷◌, ◌++◌, refl}
-use Rattle.kpn_net.specs.Tables.{Tables}
-use Rattle.kpn_net.specs.Faults.{IsNetwork}
-use Rattle.kpn_step.specs.declared.stop.Stop.{Stop}
-use Rattle.kpn_history.specs.declared.event.Event.{Event}
-use Rattle.kpn_history.specs.Talks.{is_of, is_of_process}
-use Rattle.kpn_history.specs.Legal.{HasNumbers, OwesGrowth, growth_after, Legal}
-use Rattle.kpn_history.specs.Stops.{OwesNothing}
-use Rattle.kpn_history.proofs.AfterEvent.{of_process}
+use Rattle.kpn_audit.proofs.Common.{◌≡◌, ℕ, Bool, true, false, List, [], ◌∷◌, ◌++◌, refl, Tables, IsNetwork, Stop, Event, is_of, is_of_process, HasNumbers, OwesGrowth, growth_after, Legal, OwesNothing, of_process, Machine, IsDueNow, IsRun, due_here, due_outside, IsStopped}
 use Rattle.kpn_history.proofs.OneMore.{Legal-exactly}
-use Rattle.kpn_machine.specs.Machine.{Machine}
-use Rattle.kpn_machine.specs.Due.{IsDueNow}
-use Rattle.kpn_machine.specs.Run.{IsRun}
-use Rattle.kpn_machine.proofs.Exact.{due_here, due_outside}
-use Rattle.kpn_audit.specs.Judged.{IsStopped}
 
 -- what may follow is due, whether it is of a process that has come to a stop or of none
 pub must_be_due : (t : Tables) → IsNetwork t → (H : List Event) (s : Machine) → IsRun t H s → OwesNothing t H

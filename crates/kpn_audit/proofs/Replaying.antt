@@ -1,28 +1,6 @@
 -- A list of events, one after another.
-use Rattle.std.proofs.Common.{◌≡◌, ◌≢◌, inl, inr, Result, Ok, ℕ, zero, suc, ◌+◌, ◌<◌, true, List, [], ◌∷◌, ◌++◌, length, take, get_or, Option, Some, None, slice_get, refl, sym, ap, ◌∙◌, subst, add-one, suc-add, arith}
-use Rattle.std.proofs.lemmas.Bool.{cases_order, eqb-true, false≢true}
-use Rattle.kpn_lang.specs.Prefix.{IsPrefix}
-use Rattle.kpn_net.specs.Tables.{Tables, instance_at, program_of}
-use Rattle.kpn_net.specs.Faults.{IsNetwork}
-use Rattle.kpn_step.specs.Frame.{Frame, start_frame}
-use Rattle.kpn_step.specs.Step.{step_of, Steps}
-use Rattle.kpn_step.specs.Stops.{IsBetween}
-use Rattle.kpn_history.specs.declared.event.Event.{Event}
-use Rattle.kpn_history.specs.declared.event.Event.TheVariants.{Get, Put, WaitEmpty, WaitFull, Ended}
-use Rattle.kpn_history.specs.Talks.{is_of}
-use Rattle.kpn_history.specs.Legal.{HasNumbers, Legal}
-use Rattle.kpn_history.specs.Stops.{OwesNothing}
-use Rattle.kpn_history.proofs.Legality.{Legal-prefix}
-use Rattle.kpn_machine.specs.Machine.{Machine, frame_in, IsFree}
-use Rattle.kpn_machine.specs.Run.{IsRun}
-use Rattle.kpn_machine.proofs.Due.{may_go}
-use Rattle.kpn_machine.proofs.Exact.{free_there}
-use Rattle.kpn_machine.specs.declared.machine.growth.OwedGrowth.{OwedGrowth}
-use Rattle.kpn_audit.specs.declared.judged.Judged.{Judged}
+use Rattle.kpn_audit.proofs.Common.{◌≡◌, ◌≢◌, inl, inr, Result, Ok, ℕ, zero, suc, ◌+◌, ◌<◌, true, List, [], ◌∷◌, ◌++◌, length, take, get_or, Option, Some, None, slice_get, refl, sym, ap, ◌∙◌, subst, add-one, suc-add, arith, cases_order, eqb-true, false≢true, IsPrefix, Tables, instance_at, program_of, IsNetwork, Frame, start_frame, step_of, Steps, IsBetween, Event, Get, Put, WaitEmpty, WaitFull, Ended, is_of, HasNumbers, Legal, OwesNothing, Legal-prefix, Machine, frame_in, IsFree, IsRun, may_go, free_there, OwedGrowth, Judged, GoesBy, ComesBy, ArePlaces, Owes, IsInTime, IsJudged, IsWithinSteps, AreWithinSteps, IsIllegalAt, IsOutOfSteps, IsBudgetAt}
 use Rattle.kpn_audit.specs.declared.judged.Judged.TheVariants.{Follows, Illegal, Budget}
-use Rattle.kpn_audit.specs.Place.{GoesBy, ComesBy}
-use Rattle.kpn_audit.specs.Judged.{ArePlaces, Owes, IsInTime, IsJudged}
-use Rattle.kpn_audit.specs.Audit.{IsWithinSteps, AreWithinSteps, IsIllegalAt, IsOutOfSteps, IsBudgetAt}
 
 -- the events before one, and it
 pub one_event_more : (H : List Event) (k : ℕ) (e d : Event) → k < length H → e ≡ get_or H k d

@@ -1,14 +1,5 @@
 -- What stands before an event of a stored trace.
-use Rattle.std.proofs.Common.{◌≡◌, ℕ, zero, suc, ◌<◌, List, [], ◌∷◌, ◌++◌, length, take, get_or, refl, ap, subst}
-use Rattle.kpn_net.specs.Tables.{Tables}
-use Rattle.kpn_history.specs.declared.event.Event.{Event}
-use Rattle.kpn_history.specs.declared.stored.Version.{Version}
-use Rattle.kpn_history.specs.declared.stored.Version.TheVariants.{One, Two}
-use Rattle.kpn_audit.specs.declared.findings.AuditFault.{AuditFault}
-use Rattle.kpn_audit.specs.declared.scene.Scene.{Scene}
-use Rattle.kpn_audit.specs.Audit.{IsFault}
-use Rattle.kpn_audit.specs.Stored.{told, told_behind, history_of, told_in}
-use Rattle.kpn_audit.specs.Scene.{IsScene, IsSceneAt}
+use Rattle.kpn_audit.proofs.Common.{◌≡◌, ℕ, zero, suc, ◌<◌, List, [], ◌∷◌, ◌++◌, length, take, get_or, refl, ap, subst, Tables, Event, Version, One, Two, AuditFault, Scene, IsFault, told, told_behind, history_of, told_in, IsScene, IsSceneAt}
 use Rattle.kpn_audit.proofs.Replaying.{event_at}
 use Rattle.kpn_audit.proofs.Telling.{told_there, is_there}
 

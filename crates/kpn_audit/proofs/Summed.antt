@@ -1,23 +1,10 @@
 -- What a machine shows of the history that led to it.
-use Rattle.std.proofs.Common.{◌≡◌, ◌↔◌, ℕ, zero, suc, ◌+◌, ◌<◌, true, List, [], ◌∷◌, length, map, slice_index_or, Option, None, refl, sym, ap, ◌∙◌, subst, arith}
-use Rattle.std.specs.List.{range_with_len}
-use Rattle.std.proofs.lemmas.List.FromFn.{get_or-map-range_with_len, length-map-range_with_len}
-use Rattle.kpn_chan.specs.Channel.{ChannelState}
-use Rattle.kpn_net.specs.Tables.{Tables}
-use Rattle.kpn_net.specs.Faults.{IsNetwork}
-use Rattle.kpn_net.specs.Iteration.{IsLeast}
-use Rattle.kpn_history.specs.declared.event.Event.{Event}
-use Rattle.kpn_history.specs.Channels.{written_on, read_on, capacity_after, fed}
+use Rattle.kpn_audit.proofs.Common.{◌≡◌, ◌↔◌, ℕ, zero, suc, ◌+◌, ◌<◌, true, List, [], ◌∷◌, length, map, slice_index_or, Option, None, refl, sym, ap, ◌∙◌, subst, arith, range_with_len, get_or-map-range_with_len, length-map-range_with_len, ChannelState, Tables, IsNetwork, IsLeast, Event, written_on, read_on, capacity_after, fed, Machine, channel_in, wait_in, end_in, IsEndOf, IsRun, by_number, Audit, IsAudit, AreLeast}
 use Rattle.kpn_history.specs.declared.event.How.{How}
 use Rattle.kpn_history.specs.Waiting.{wait_of}
 use Rattle.kpn_history.specs.Ends.{IsQuiet}
 use Rattle.kpn_history.proofs.Kahn.{least_if_quiet}
-use Rattle.kpn_machine.specs.Machine.{Machine, channel_in, wait_in, end_in}
-use Rattle.kpn_machine.specs.Run.{IsEndOf, IsRun}
-use Rattle.kpn_machine.proofs.Numbered.{by_number}
 use Rattle.kpn_audit.specs.Shown.{ShowsLists}
-use Rattle.kpn_audit.specs.declared.findings.Audit.{Audit}
-use Rattle.kpn_audit.specs.Audit.{IsAudit, AreLeast}
 
 -- entries that are the same one by one
 same_entries : {X : Type 0} (f g : ℕ → X) (a n m : ℕ) → a + n ≡ m → ((c : ℕ) → c < m → f c ≡ g c)

@@ -1,27 +1,13 @@
 -- The history that a stored trace gives, one event after another.
-use Rattle.std.proofs.Common.{◌≡◌, ℕ, zero, suc, ◌+◌, ◌^◌, ◌<◌, Bool, true, false, List, [], ◌∷◌, ◌++◌, length, take, get_or, Some, refl, sym, ap, ap₂, subst, ◌∙◌, append-nil, append_assoc, arith}
-use Rattle.std.specs.Prelude.{nat_lt, if◌then◌else◌}
-use Rattle.std.proofs.lemmas.Bool.{ltb-true}
+use Rattle.kpn_audit.proofs.Common.{◌≡◌, ℕ, zero, suc, ◌+◌, ◌^◌, ◌<◌, Bool, true, false, List, [], ◌∷◌, ◌++◌, length, take, get_or, Some, refl, sym, ap, ap₂, subst, ◌∙◌, append-nil, append_assoc, arith, nat_lt, if◌then◌else◌, ltb-true, Tables, IsNetwork, Event, Version, One, Two, capacity_after, Machine, channel_in, IsRun, AuditFault, IsFault, IsRefusal, Differs, audited_under, told, told_behind, history_of, tables_for, history_in, told_in, told_capacity, one_larger}
 use Rattle.kpn_net.specs.declared.tables.Policy.{Policy}
 use Rattle.kpn_net.specs.declared.tables.Policy.TheVariants.{Cycles}
 use Rattle.kpn_net.specs.declared.tables.Growth.{Growth}
 use Rattle.kpn_net.specs.declared.tables.Growth.TheVariants as growth
-use Rattle.kpn_net.specs.Tables.{Tables}
-use Rattle.kpn_net.specs.Faults.{IsNetwork}
 use Rattle.kpn_net.proofs.Networks.{limit_in_range}
-use Rattle.kpn_history.specs.declared.event.Event.{Event}
-use Rattle.kpn_history.specs.declared.stored.Version.{Version}
-use Rattle.kpn_history.specs.declared.stored.Version.TheVariants.{One, Two}
 use Rattle.kpn_history.specs.declared.stored.Trace.{Trace}
-use Rattle.kpn_history.specs.Channels.{capacity_after}
 use Rattle.kpn_history.proofs.Capacities.{in_limit}
-use Rattle.kpn_machine.specs.Machine.{Machine, channel_in}
-use Rattle.kpn_machine.specs.Run.{IsRun}
-use Rattle.kpn_audit.specs.declared.findings.AuditFault.{AuditFault}
 use Rattle.kpn_audit.specs.declared.findings.AuditFault.TheVariants.{Illegal, NoMemory, Budget, PolicyDiffers}
-use Rattle.kpn_audit.specs.Audit.{IsFault, IsRefusal}
-use Rattle.kpn_audit.specs.Stored.{Differs, audited_under, told, told_behind, history_of, tables_for, history_in}
-use Rattle.kpn_audit.specs.Stored.{told_in, told_capacity, one_larger}
 
 -- ---- as many events as stand there
 

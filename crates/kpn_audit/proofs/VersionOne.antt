@@ -1,15 +1,9 @@
 -- A growth of a trace of version 1 stands for the channel's first capacity, and one more for each growth so far.
 use Rattle.std.proofs.Common.{◌≡◌, ℕ, zero, suc, ◌+◌, ◌<◌, Bool, true, false, cond, List, [], ◌∷◌, ◌++◌, length, take, count_by, Option, Some, None, slice_get, refl, sym, ap, ◌∙◌, add_assoc, eq-eqb, arith}
-use Rattle.std.specs.Prelude.{nat_lt, if◌then◌else◌}
+use Rattle.kpn_audit.proofs.Common.{nat_lt, if◌then◌else◌, lt-ltb, Tables, channel_at, capacity, grown_capacity, Event, Grow, is_growth_of, after_growths, capacity_after, one_larger, told, told_behind}
 use Rattle.std.specs.Option.{option_map}
-use Rattle.std.proofs.lemmas.Bool.{lt-ltb}
 use Rattle.std.proofs.lemmas.List.Sums.{sum_by-cons, sum_by_push}
 use Rattle.kpn_net.specs.declared.tables.Growth.TheVariants as growth
-use Rattle.kpn_net.specs.Tables.{Tables, channel_at, capacity, grown_capacity}
-use Rattle.kpn_history.specs.declared.event.Event.{Event}
-use Rattle.kpn_history.specs.declared.event.Event.TheVariants.{Grow}
-use Rattle.kpn_history.specs.Channels.{is_growth_of, after_growths, capacity_after}
-use Rattle.kpn_audit.specs.Stored.{one_larger, told, told_behind}
 
 -- if a growth makes a capacity one larger, `times` growths make it `times` larger
 one_each : (t : Tables) → t.growth ≡ growth.One → (times cap : ℕ) → after_growths t times cap ≡ cap + times

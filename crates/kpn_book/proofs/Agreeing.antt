@@ -1,23 +1,7 @@
 -- A view that is copied from a book agrees with its history.
-use Rattle.std.proofs.Common.{◌≡◌, ℕ, ◌<◌, false, not, List, [], ◌∷◌, None, length, map, get_or, refl, sym, ap, ◌∙◌, subst, arith}
+use Rattle.kpn_book.proofs.Common.{◌≡◌, ℕ, ◌<◌, false, not, List, [], ◌∷◌, None, length, map, get_or, refl, sym, ap, ◌∙◌, subst, arith, length-range_with_len, get_or-range_with_len, Wait, Nobody, Empty, Full, channel_numbers, Contains-first, Contains-later, State, View, has_ended, written_on, read_on, capacity_after, reader_lives, wait_of, IsStateOf, AreCounts, Agrees, channel_in, wait_in, end_in, IsEndOf, state_at, Book, IsInStep, IsStateBy}
 use Rattle.std.specs.List.{Contains, range_with_len}
-use Rattle.std.proofs.lemmas.List.FromFn.{length-range_with_len, get_or-range_with_len}
-use Rattle.kpn_net.specs.declared.wait.Wait.{Wait}
-use Rattle.kpn_net.specs.declared.wait.Wait.TheVariants.{Nobody, Empty, Full}
-use Rattle.kpn_net.specs.Faults.{channel_numbers}
-use Rattle.kpn_net.proofs.Cycles.{Contains-first, Contains-later}
-use Rattle.kpn_history.specs.declared.state.State.{State}
 use Rattle.kpn_history.specs.declared.state.State.TheVariants.{Ready, Held, WaitsEmpty, WaitsFull, Ended}
-use Rattle.kpn_history.specs.declared.state.View.{View}
-use Rattle.kpn_history.specs.Talks.{has_ended}
-use Rattle.kpn_history.specs.Channels.{written_on, read_on, capacity_after, reader_lives}
-use Rattle.kpn_history.specs.Waiting.{wait_of}
-use Rattle.kpn_history.specs.Views.{IsStateOf, AreCounts, Agrees}
-use Rattle.kpn_machine.specs.Machine.{channel_in, wait_in, end_in}
-use Rattle.kpn_machine.specs.Run.{IsEndOf}
-use Rattle.kpn_book.specs.Schedule.{state_at}
-use Rattle.kpn_book.specs.Book.{Book}
-use Rattle.kpn_book.specs.Kept.{IsInStep, IsStateBy}
 
 -- functions that agree on all members give the same lists
 pub same_list : {A : Type 0} (f g : ℕ → A) (xs : List ℕ) → ((c : ℕ) → Contains xs c → f c ≡ g c) → map f xs ≡ map g xs

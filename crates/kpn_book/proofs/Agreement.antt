@@ -1,27 +1,9 @@
 -- Kahn's theorem on reports: it depends only on legal histories.
-use Rattle.std.proofs.Common.{◌≡◌, ℕ, ◌<◌, ◌≤◌, ◌⊎◌, ℤ, List, [], length, take, get_or, Some, sym, ap, ◌∙◌, subst, inl, inr, arith}
-use Rattle.std.proofs.lemmas.Bool.{cases_lt}
+use Rattle.kpn_book.proofs.Common.{◌≡◌, ℕ, ◌<◌, ◌≤◌, ◌⊎◌, ℤ, List, [], length, take, get_or, Some, sym, ap, ◌∙◌, subst, inl, inr, arith, cases_lt, Full, Tables, IsNetwork, channel_numbers, iterate, given_by, lists_of, IsPrefixOnSources, AgreeOnSources, IsBelowLeast, IsLeast, list_of, IsPrefix, wait_of, IsVerdict, IsQuiet, WaitsOnFull, IsJammedAtLimit, WaitsForBlocked, fed-source, below_least, least_if_quiet_given, one_iterate, first_items, no_wait_left, quiet_where_ended, jammed_at_limit, waits_for_blocked, Limits, Report, IsOutcome, IsEnough, verdict_of, events_of, journal_of, taken_of, sink_numbers, IsReport}
 use Rattle.kpn_net.specs.declared.tables.Policy.TheVariants.{All}
-use Rattle.kpn_net.specs.declared.wait.Wait.TheVariants.{Full}
-use Rattle.kpn_net.specs.Tables.{Tables}
-use Rattle.kpn_net.specs.Faults.{IsNetwork, channel_numbers}
-use Rattle.kpn_net.specs.Iteration.{iterate, given_by, lists_of, IsPrefixOnSources, AgreeOnSources, IsBelowLeast, IsLeast}
-use Rattle.kpn_net.proofs.RoundLemmas.{list_of}
-use Rattle.kpn_lang.specs.Prefix.{IsPrefix}
 use Rattle.kpn_history.specs.declared.state.Verdict.TheVariants as verdict
 use Rattle.kpn_history.specs.Channels.{written_on, read_on, fed, capacity_after}
-use Rattle.kpn_history.specs.Waiting.{wait_of}
-use Rattle.kpn_history.specs.Ends.{IsVerdict, IsQuiet, WaitsOnFull}
-use Rattle.kpn_history.specs.Stops.{IsJammedAtLimit, WaitsForBlocked}
-use Rattle.kpn_history.proofs.Below.{fed-source}
-use Rattle.kpn_history.proofs.Kahn.{below_least, least_if_quiet_given, one_iterate, first_items}
-use Rattle.kpn_history.proofs.OwedGrowth.{no_wait_left}
-use Rattle.kpn_history.proofs.Stops.{quiet_where_ended, jammed_at_limit, waits_for_blocked}
-use Rattle.kpn_book.specs.declared.outcome.Limits.{Limits}
 use Rattle.kpn_book.specs.declared.outcome.Outcome.TheVariants.{Ended, Clogged, Jammed, Enough}
-use Rattle.kpn_book.specs.declared.report.Report.{Report}
-use Rattle.kpn_book.specs.Outcomes.{IsOutcome, IsEnough, verdict_of}
-use Rattle.kpn_book.specs.Reports.{events_of, journal_of, taken_of, sink_numbers, IsReport}
 use Rattle.kpn_book.proofs.Agreeing.{same_list}
 use Rattle.kpn_book.proofs.Parts.{sink_at, sink_is, read_of_sink, read_of_sinks-length, read_of_no_sink}
 

@@ -1,13 +1,6 @@
 -- A schedule after some processes have become ready: these are ready, and all others have the state that they had.
-use Rattle.std.proofs.Common.{◌≡◌, ℕ, ◌<◌, List, [], ◌∷◌, ◌++◌, length, set, get_or, refl, sym, ◌∙◌, subst, inl, inr, arith}
+use Rattle.kpn_book.proofs.Common.{◌≡◌, ℕ, ◌<◌, List, [], ◌∷◌, ◌++◌, length, set, get_or, refl, sym, ◌∙◌, subst, inl, inr, arith, cases_eq, cases_lt, length-set, get_or-set_same, get_or-set_other, get_or_past, Contains-first, Contains-later, Contains-cases, Contains-none, State, Ready, Schedule, state_at, made_ready, all_made_ready}
 use Rattle.std.specs.List.{Contains}
-use Rattle.std.proofs.lemmas.Bool.{cases_eq, cases_lt}
-use Rattle.std.proofs.lemmas.List.{length-set, get_or-set_same, get_or-set_other, get_or_past}
-use Rattle.kpn_net.proofs.Cycles.{Contains-first, Contains-later, Contains-cases, Contains-none}
-use Rattle.kpn_history.specs.declared.state.State.{State}
-use Rattle.kpn_history.specs.declared.state.State.TheVariants.{Ready}
-use Rattle.kpn_book.specs.Schedule.{Schedule, state_at, made_ready}
-use Rattle.kpn_book.specs.Appending.{all_made_ready}
 
 pub states_length : (ps : List ℕ) (s : Schedule) → length (all_made_ready ps s).states ≡ length s.states
 states_length [] s = refl

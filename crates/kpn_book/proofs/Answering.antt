@@ -1,37 +1,9 @@
 -- What a commit returns at a stop of a process, and the events that this appends.
-use Rattle.std.proofs.Common.{◌≡◌, ◌↔◌, ℕ, ◌+◌, ◌<◌, ◌≤◌, ◌^◌, ℤ, Bool, true, false, cond, List, [], ◌∷◌, ◌++◌, length, count_by, Option, Some, None, refl, sym, ap, ◌∙◌, subst, inl, inr, arith}
-use Rattle.std.proofs.lemmas.Bool.{cases_eq}
-use Rattle.std.proofs.lemmas.List.Sums.{sum_by-append}
-use Rattle.std.proofs.lemmas.List.{length-set, get_or-set_same, get_or-set_other}
-use Rattle.kpn_net.specs.Tables.{Tables, larger_capacity}
-use Rattle.kpn_net.specs.Faults.{IsNetwork}
-use Rattle.kpn_step.specs.declared.stop.Stop.{Stop}
+use Rattle.kpn_book.proofs.Common.{◌≡◌, ◌↔◌, ℕ, ◌+◌, ◌<◌, ◌≤◌, ◌^◌, ℤ, Bool, true, false, cond, List, [], ◌∷◌, ◌++◌, length, count_by, Option, Some, None, refl, sym, ap, ◌∙◌, subst, inl, inr, arith, cases_eq, sum_by-append, length-set, get_or-set_same, get_or-set_other, Tables, larger_capacity, IsNetwork, Stop, is_channel_full, next_item, Event, How, Ready, is_of_process, process_events, capacity_or_zero, OwesCycleGrowth, OwesGrowth, growth_after, Legal, waiter, waiter_of_last, OwesNothing, OwesNoCycleGrowth, OwesNoStopGrowth, lets_go_on, last_or-push, process_events-next, Some-number, no_cycle_owed_after, no_stop_owed_after, channel_in, end_in, wait_in, stop_of, IsRun, owed_by_history, state_at, made_ready, Done, Book, IsHeld, held_count, put_back, with_one_commit, AppendsAll, IsGrowthOwed, Happens, IsReadFrom, IsWriteTo, HasToWait, IsAnswer, ready_if_paused, HandlesStop, IsStateBy, IsInStep, IsKept}
 use Rattle.kpn_step.specs.declared.stop.Stop.TheVariants as stop
-use Rattle.kpn_chan.specs.Channel.{is_channel_full, next_item}
-use Rattle.kpn_history.specs.declared.event.Event.{Event}
 use Rattle.kpn_history.specs.declared.event.Event.TheVariants as event
-use Rattle.kpn_history.specs.declared.event.How.{How}
-use Rattle.kpn_history.specs.declared.state.State.TheVariants.{Ready}
-use Rattle.kpn_history.specs.Talks.{is_of_process, process_events}
-use Rattle.kpn_history.specs.Channels.{capacity_or_zero}
-use Rattle.kpn_history.specs.Legal.{OwesCycleGrowth, OwesGrowth, growth_after, Legal, waiter, waiter_of_last}
-use Rattle.kpn_history.specs.Stops.{OwesNothing, OwesNoCycleGrowth, OwesNoStopGrowth, lets_go_on}
-use Rattle.kpn_history.proofs.Events.{last_or-push}
-use Rattle.kpn_history.proofs.AfterEvent.{process_events-next}
-use Rattle.kpn_history.proofs.Growth.{Some-number, no_cycle_owed_after}
-use Rattle.kpn_history.proofs.OwedGrowth.{no_stop_owed_after}
-use Rattle.kpn_machine.specs.Machine.{channel_in, end_in, wait_in}
-use Rattle.kpn_machine.specs.Due.{stop_of}
 use Rattle.kpn_machine.specs.Owed.{IsOwed}
-use Rattle.kpn_machine.specs.Run.{IsRun}
-use Rattle.kpn_machine.proofs.Growing.{owed_by_history}
-use Rattle.kpn_book.specs.Schedule.{state_at, made_ready}
-use Rattle.kpn_book.specs.declared.answers.Done.{Done}
 use Rattle.kpn_book.specs.declared.answers.Done.TheVariants as done
-use Rattle.kpn_book.specs.Book.{Book, IsHeld, held_count, put_back, with_one_commit}
-use Rattle.kpn_book.specs.Appending.{AppendsAll, IsGrowthOwed, Happens}
-use Rattle.kpn_book.specs.Commits.{IsReadFrom, IsWriteTo, HasToWait, IsAnswer, ready_if_paused, HandlesStop}
-use Rattle.kpn_book.specs.Kept.{IsStateBy, IsInStep, IsKept}
 use Rattle.kpn_book.specs.Open.{Follows, IsSound, AnswersAt, Answered, EndsWithWait, grows_if_owed, GrowsIfOwed, GrowsAtStop, of_process}
 use Rattle.kpn_book.proofs.Following.{held_is_free}
 use Rattle.kpn_book.proofs.CommitCounts.{held_less}

@@ -1,17 +1,6 @@
 -- A run in any order: what it has come to is that of its last book, wherever its processes stand in the queue.
-use Rattle.std.proofs.Common.{◌≡◌, ℕ, ◌-◌, ◌<◌, ◌≤◌, max, Bool, true, false, [], Option, Some, None, sym, ap, ◌∙◌, subst, length, arith}
-use Rattle.std.proofs.lemmas.Bool.{false≢true}
-use Rattle.kpn_lang.proofs.Prefixes.{IsPrefix-refl}
-use Rattle.kpn_lang.specs.Prefix.{IsPrefix}
-use Rattle.kpn_net.specs.Tables.{channel_at, is_source, is_sink}
-use Rattle.kpn_history.specs.Channels.{written_on, read_on, is_closed, is_left}
-use Rattle.kpn_book.specs.declared.outcome.Limits.{Limits}
-use Rattle.kpn_book.specs.Book.{Book, held_count}
-use Rattle.kpn_book.specs.InARow.{IsStepInRow, StepsUncommitted}
+use Rattle.kpn_book.proofs.Common.{◌≡◌, ℕ, ◌-◌, ◌<◌, ◌≤◌, max, Bool, true, false, [], Option, Some, None, sym, ap, ◌∙◌, subst, length, arith, false≢true, IsPrefix-refl, IsPrefix, channel_at, is_source, is_sink, written_on, read_on, is_closed, is_left, Limits, Book, held_count, IsStepInRow, StepsUncommitted, Remembers, RemembersAsMuch, IsEnough, IsLeftToItself, IsLater, IsCommitted, HasPutOn, IsStepped, AreStepped}
 use Rattle.kpn_book.specs.GoingOn.{IsReordered, TurnsInAnyOrder, no_turn, another_order, steps_on, one_turn_more, RunsInAnyOrder}
-use Rattle.kpn_book.specs.Remembering.{Remembers, RemembersAsMuch}
-use Rattle.kpn_book.specs.Outcomes.{IsEnough}
-use Rattle.kpn_book.specs.Running.{IsLeftToItself, IsLater, IsCommitted, HasPutOn, IsStepped, AreStepped}
 use Rattle.kpn_book.proofs.Stepped.{IsLater-refl, IsLater-trans}
 use Rattle.kpn_book.proofs.InARow.{its_turn, inside}
 

@@ -1,15 +1,7 @@
 -- Events that are appended one after the other: the network, the history and the number of commits after them.
-use Rattle.std.proofs.Common.{◌≡◌, ℕ, ◌+◌, List, [], ◌∷◌, ◌++◌, length, refl, sym, ap, ◌∙◌, arith, append-nil}
+use Rattle.kpn_book.proofs.Common.{◌≡◌, ℕ, ◌+◌, List, [], ◌∷◌, ◌++◌, length, refl, sym, ap, ◌∙◌, arith, append-nil, Event, Done, Book, IsHeld, IsClaimed, standing_at, with_one_commit, Advanced, Ready, Held, state_at, Appends, AppendsAll, ready_if_paused, Commits}
 use Rattle.std.proofs.lemmas.List.{append_assoc, length-set, get_or-set_same}
-use Rattle.kpn_history.specs.declared.event.Event.{Event}
-use Rattle.kpn_book.specs.declared.answers.Done.{Done}
 use Rattle.kpn_book.specs.declared.answers.Done.TheVariants as done
-use Rattle.kpn_book.specs.Book.{Book, IsHeld, IsClaimed, standing_at, with_one_commit}
-use Rattle.kpn_step.specs.Stops.{Advanced}
-use Rattle.kpn_history.specs.declared.state.State.TheVariants.{Ready, Held}
-use Rattle.kpn_book.specs.Schedule.{state_at}
-use Rattle.kpn_book.specs.Appending.{Appends, AppendsAll}
-use Rattle.kpn_book.specs.Commits.{ready_if_paused, Commits}
 
 pub tables_stay : (events : List Event) (before after : Book) → AppendsAll events before after
     → after.tables ≡ before.tables

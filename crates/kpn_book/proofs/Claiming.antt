@@ -1,28 +1,6 @@
 -- A region is claimed: its processes, the channels, and what that makes of the book.
-use Rattle.std.proofs.Common.{◌≡◌, ◌↔◌, ℕ, ◌+◌, ◌-◌, ◌<◌, ◌≤◌, ◌^◌, min, ℤ, Bool, true, false, not, ◌&&◌, eqb, cond, IsTrue, List, [], ◌∷◌, ◌++◌, length, take, drop, get_or, Option, Some, None, is_some, Result, Ok, Err, refl, sym, ap, ◌∙◌, subst, inl, inr, arith, length-drop}
+use Rattle.kpn_book.proofs.Common.{◌≡◌, ◌↔◌, ℕ, ◌+◌, ◌-◌, ◌<◌, ◌≤◌, ◌^◌, min, ℤ, Bool, true, false, not, ◌&&◌, eqb, cond, IsTrue, List, [], ◌∷◌, ◌++◌, length, take, drop, get_or, Option, Some, None, is_some, Result, Ok, Err, refl, sym, ap, ◌∙◌, subst, inl, inr, arith, length-drop, OnOk, cases_eq, false≢true, eqb-true, get_or-set_same, get_or-set_other, length-take-le, take_all, Contains-append_left, Contains-push, Contains-push_cases, End, Process, Tables, channel_at, is_sink, writer_of, reader_of, IsNetwork, ChannelState, unread, has_places_for, roomy, readable, How, Machine, channel_in, wait_in, end_in, frame_in, no_frame, within_capacity, no_side, Local, is_in_region, frame_at, side_at, IsLocal, Batch, IsFresh, with_process, ChannelAgrees, AgreesWith, state_at, Book, IsStateBy, IsKept, batch_held, CanCount, may_claim, is_end_within, at_most_half, items_claimed, free_room, room_claimed, drains_claimed, side_by, side_claimed, IsRoomyToWrite, IsSameButMemory, IsSameBook, ClaimsRegion, with_process_of, HasProcesses, MakesRoom, SeesChannel, SeesChannels}
 use Rattle.std.specs.List.{Contains}
-use Rattle.std.specs.Prelude.{OnOk}
-use Rattle.std.proofs.lemmas.Bool.{cases_eq, false≢true, eqb-true}
-use Rattle.std.proofs.lemmas.List.{get_or-set_same, get_or-set_other, length-take-le, take_all}
-use Rattle.std.proofs.lemmas.List.Elements.{Contains-append_left, Contains-push, Contains-push_cases}
-use Rattle.kpn_net.specs.declared.tables.End.{End}
-use Rattle.kpn_net.specs.declared.tables.End.TheVariants.{Process}
-use Rattle.kpn_net.specs.Tables.{Tables, channel_at, is_sink, writer_of, reader_of}
-use Rattle.kpn_net.specs.Faults.{IsNetwork}
-use Rattle.kpn_chan.specs.Channel.{ChannelState, unread, has_places_for, roomy, readable}
-use Rattle.kpn_history.specs.declared.event.How.{How}
-use Rattle.kpn_machine.specs.Machine.{Machine, channel_in, wait_in, end_in, frame_in, no_frame}
-use Rattle.kpn_machine.proofs.Moments.{within_capacity}
-use Rattle.kpn_region.specs.Local.{no_side, Local, is_in_region, frame_at, side_at, IsLocal}
-use Rattle.kpn_region.specs.Batch.{Batch, IsFresh, with_process}
-use Rattle.kpn_region.specs.Joining.{ChannelAgrees, AgreesWith}
-use Rattle.kpn_book.specs.Schedule.{state_at}
-use Rattle.kpn_book.specs.Book.{Book}
-use Rattle.kpn_book.specs.Kept.{IsStateBy, IsKept}
-use Rattle.kpn_book.specs.Regions.{batch_held}
-use Rattle.kpn_book.specs.RegionCalls.{CanCount}
-use Rattle.kpn_book.specs.RegionClaims.{may_claim, is_end_within, at_most_half, items_claimed, free_room, room_claimed, drains_claimed, side_by, side_claimed, IsRoomyToWrite, IsSameButMemory, IsSameBook, ClaimsRegion}
-use Rattle.kpn_book.specs.ClaimParts.{with_process_of, HasProcesses, MakesRoom, SeesChannel, SeesChannels}
 use Rattle.kpn_book.proofs.Regions.{and_left, and_right}
 
 -- ---- processes

@@ -1,18 +1,9 @@
 -- How many processes are held after an event: one fewer if the event is of a process.
 use Rattle.std.proofs.Common.{◌≡◌, ℕ, ◌+◌, ◌<◌, true, false, cond, List, [], ◌∷◌, length, set, get_or, count_by, eqb, eq-eqb, refl, ap, ◌∙◌, subst, inl, inr, arith}
 use Rattle.std.specs.List.{Contains}
-use Rattle.std.proofs.lemmas.Bool.{cases_eq}
-use Rattle.std.proofs.lemmas.List.{length-set, get_or-set_same, get_or-set_other}
-use Rattle.std.proofs.lemmas.List.Sums.{sum_by-set}
-use Rattle.kpn_net.proofs.Cycles.{Contains-first, Contains-later}
-use Rattle.kpn_history.specs.declared.event.Event.{Event}
+use Rattle.kpn_book.proofs.Common.{cases_eq, length-set, get_or-set_same, get_or-set_other, sum_by-set, Contains-first, Contains-later, Event, State, is_of, is_held, Schedule, state_at, made_ready, own_part, all_made_ready}
 use Rattle.kpn_history.specs.declared.event.Event.TheVariants as event
-use Rattle.kpn_history.specs.declared.state.State.{State}
 use Rattle.kpn_history.specs.declared.state.State.TheVariants.{Ready, Held, WaitsEmpty, WaitsFull, Ended}
-use Rattle.kpn_history.specs.Talks.{is_of}
-use Rattle.kpn_history.specs.Views.{is_held}
-use Rattle.kpn_book.specs.Schedule.{Schedule, state_at, made_ready}
-use Rattle.kpn_book.specs.Appending.{own_part, all_made_ready}
 use Rattle.kpn_book.specs.Open.{of_process}
 
 -- how many processes of a list are held

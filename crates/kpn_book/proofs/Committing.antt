@@ -1,38 +1,11 @@
 -- A commit, and a step in place: a process is held, goes to the end of its steps, and is committed there.
-use Rattle.std.proofs.Common.{◌≡◌, ◌≢◌, ℕ, ◌+◌, ◌-◌, ◌<◌, ◌≤◌, ◌^◌, ℤ, true, false, cond, if◌then◌else◌, is_ok, IsTrue, List, length, set, Option, None, refl, sym, ap, ◌∙◌, subst, inl, inr, arith, Result, Ok, Err, slice_index}
-use Rattle.std.proofs.lemmas.Bool.{cases_eq, cases_lt, false≢true}
-use Rattle.std.proofs.lemmas.List.{length-set, get_or-set_same, get_or-set_other, get_or_past}
-use Rattle.kpn_net.specs.Tables.{Tables, instance_at, program_of, channel_at, is_source}
-use Rattle.kpn_step.specs.Frame.{Frame}
-use Rattle.kpn_step.specs.declared.stop.Stop.{Stop}
+use Rattle.kpn_book.proofs.Common.{◌≡◌, ◌≢◌, ℕ, ◌+◌, ◌-◌, ◌<◌, ◌≤◌, ◌^◌, ℤ, true, false, cond, if◌then◌else◌, is_ok, IsTrue, List, length, set, Option, None, refl, sym, ap, ◌∙◌, subst, inl, inr, arith, Result, Ok, Err, slice_index, cases_eq, cases_lt, false≢true, length-set, get_or-set_same, get_or-set_other, get_or_past, Tables, instance_at, program_of, channel_at, is_source, Frame, Stop, Parts, Advanced, IsAdvance, IsAtPort, IsWithinQuota, advanced_of, Event, Recorded, Ready, Held, is_of_process, process_events, IsNetwork, waiter, lets_go_on, process_events-next, is_held, with_room, Machine, channel_in, end_in, wait_in, frame_in, with_channel, IsRun-moved, Schedule, state_at, HoldsFirst, Done, Book, IsHeld, held_count, standing_at, put_back, IsClaimed, IsWriteTo, HandlesStop, IsOwnAdvance, Commits, IsStateBy, IsKept, Stands, ReadsFrom, WritesTo, ClaimsAndSteps, StepsNext, StepsInVain, IsChannelAt}
 use Rattle.kpn_step.specs.declared.stop.Stop.TheVariants as stop
-use Rattle.kpn_lang.specs.Parts.{Parts}
-use Rattle.kpn_step.specs.Stops.{Advanced, IsAdvance, IsAtPort, IsWithinQuota, advanced_of}
-use Rattle.kpn_history.specs.declared.event.Event.{Event}
-use Rattle.kpn_history.specs.Recorded.{Recorded}
-use Rattle.kpn_history.specs.declared.state.State.TheVariants.{Ready, Held}
-use Rattle.kpn_history.specs.Talks.{is_of_process, process_events}
-use Rattle.kpn_net.specs.Faults.{IsNetwork}
-use Rattle.kpn_history.specs.Legal.{waiter}
-use Rattle.kpn_history.specs.Stops.{lets_go_on}
-use Rattle.kpn_history.proofs.AfterEvent.{process_events-next}
-use Rattle.kpn_history.specs.Views.{is_held}
-use Rattle.kpn_chan.specs.Channel.{with_room}
-use Rattle.kpn_machine.specs.Machine.{Machine, channel_in, end_in, wait_in, frame_in, with_channel}
-use Rattle.kpn_machine.proofs.Moving.{IsRun-moved}
 use Rattle.kpn_machine.proofs.Reserving.{IsRun-reserved}
-use Rattle.kpn_book.specs.Schedule.{Schedule, state_at, HoldsFirst}
-use Rattle.kpn_book.specs.declared.answers.Done.{Done}
-use Rattle.kpn_book.specs.Book.{Book, IsHeld, held_count, standing_at, put_back, IsClaimed}
-use Rattle.kpn_book.specs.Commits.{IsWriteTo, HandlesStop, IsOwnAdvance, Commits}
-use Rattle.kpn_book.specs.Kept.{IsStateBy, IsKept}
 use Rattle.kpn_book.specs.Open.{Follows, GrowsAtStop, of_process, reserves_by, IsReserved, is_but_reserved, reserved_on}
-use Rattle.kpn_machine.specs.Due.{Stands, ReadsFrom, WritesTo}
 use Rattle.kpn_book.proofs.CommitCounts.{held_in, held_more}
-use Rattle.kpn_book.specs.Stepping.{ClaimsAndSteps, StepsNext, StepsInVain}
 use Rattle.kpn_book.proofs.Appended.{claimed_is_held}
 use Rattle.kpn_book.proofs.Reserved.{handles_unreserved, is_reserved_here}
-use Rattle.kpn_machine.specs.Changes.{IsChannelAt}
 use Rattle.kpn_book.proofs.Following.{held_is_there, recorded, moved, same_recorded}
 use Rattle.kpn_book.proofs.Answering.{put_back_in_step, put_back_released, sound_after, events_at_stop, commits_at_stop, IsAtStop}
 

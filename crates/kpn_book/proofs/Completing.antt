@@ -1,37 +1,12 @@
 -- Complete channels of reports: the walk along the states of the view, and the laws of complete channels for the lists
 -- of the run.
-use Rattle.std.proofs.Common.{◌≡◌, ◌↔◌, ℕ, ◌+◌, ◌<◌, ◌≤◌, Bool, true, false, IsTrue, ℤ, List, length, get_or, slice_get, Some, refl, sym, ap, ◌∙◌, subst, arith}
-use Rattle.std.proofs.lemmas.Bool.{false≢true}
-use Rattle.std.proofs.lemmas.Option.{get_or_from_slice_get, slice_get_within}
-use Rattle.kpn_lang.specs.Prefix.{IsPrefix}
-use Rattle.kpn_lang.proofs.Prefixes.{same_from_prefix}
-use Rattle.kpn_net.specs.declared.tables.End.{End}
-use Rattle.kpn_net.specs.declared.tables.End.TheVariants.{Process, Source, Sink}
-use Rattle.kpn_net.specs.declared.wait.Wait.TheVariants.{Nobody, Empty, Full}
-use Rattle.kpn_net.specs.Tables.{Tables, channel_at, is_source, writer_of}
-use Rattle.kpn_net.specs.Faults.{IsNetwork}
-use Rattle.kpn_net.specs.Iteration.{given_by, IsLeast}
-use Rattle.kpn_net.proofs.Networks.{Writes-writer_of, source-writer_of, writer_is_no_sink}
-use Rattle.kpn_history.specs.declared.event.Event.{Event}
-use Rattle.kpn_history.specs.declared.event.How.{How}
-use Rattle.kpn_history.specs.declared.state.State.{State}
+use Rattle.kpn_book.proofs.Common.{◌≡◌, ◌↔◌, ℕ, ◌+◌, ◌<◌, ◌≤◌, Bool, true, false, IsTrue, ℤ, List, length, get_or, slice_get, Some, refl, sym, ap, ◌∙◌, subst, arith, false≢true, get_or_from_slice_get, slice_get_within, IsPrefix, same_from_prefix, End, Process, Source, Sink, Nobody, Empty, Full, Tables, channel_at, is_source, writer_of, IsNetwork, given_by, IsLeast, Writes-writer_of, source-writer_of, writer_is_no_sink, Event, How, State, View, written_on, read_on, is_closed, Legal, IsStateOf, Agrees, IsComplete, IsFedFrom, ended_by, reads_begin_writes, Walked, complete_source, complete_if_ended, incomplete_if_neither, walk_more, walk_long, Limits, Report, events_of, journal_of, taken_of, sink_numbers, AreSupplied, IsReport}
 use Rattle.kpn_history.specs.declared.state.State.TheVariants.{Ready, Held, WaitsEmpty, WaitsFull, Ended}
-use Rattle.kpn_history.specs.declared.state.View.{View}
-use Rattle.kpn_history.specs.Channels.{written_on, read_on, is_closed}
-use Rattle.kpn_history.specs.Legal.{Legal}
-use Rattle.kpn_history.specs.Views.{IsStateOf, Agrees}
-use Rattle.kpn_history.specs.Complete.{IsComplete, IsFedFrom}
-use Rattle.kpn_history.proofs.EndsOnce.{ended_by}
-use Rattle.kpn_history.proofs.Journals.{reads_begin_writes}
 use Rattle.kpn_history.proofs.OwnWaits.{wait_on_empty}
 use Rattle.kpn_history.proofs.Finished.{process-complete}
 use Rattle.kpn_history.proofs.Complete.{least_if_complete, begins_complete, complete_same}
 use Rattle.kpn_history.proofs.CompleteQuiet.{finished_if_quiet}
-use Rattle.kpn_history.proofs.CompleteWalks.{Walked, complete_source, complete_if_ended, incomplete_if_neither, walk_more, walk_long}
-use Rattle.kpn_book.specs.declared.outcome.Limits.{Limits}
 use Rattle.kpn_book.specs.declared.outcome.Outcome.TheVariants as outcome
-use Rattle.kpn_book.specs.declared.report.Report.{Report}
-use Rattle.kpn_book.specs.Reports.{events_of, journal_of, taken_of, sink_numbers, AreSupplied, IsReport}
 use Rattle.kpn_book.proofs.Agreement.{journal_is, fed_begins, is_quiet, taken_is}
 use Rattle.kpn_book.proofs.Parts.{sink_at, sink_is}
 

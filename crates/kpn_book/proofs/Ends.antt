@@ -1,23 +1,8 @@
 -- Which channels the outside writes or reads, and what more events leave as it is there.
 use Rattle.std.proofs.Common.{◌≡◌, ℕ, ◌<◌, true, false, List, [], ◌∷◌, ◌++◌, length, refl, sym, ap, ◌∙◌, subst, inl, inr, append-nil, append_assoc}
-use Rattle.std.specs.List.{flat_map}
-use Rattle.std.proofs.lemmas.Bool.{cases_lt, false≢true, both_ways, or_left}
-use Rattle.std.proofs.lemmas.List.{get_or_past}
-use Rattle.kpn_lang.specs.Prefix.{IsPrefix}
-use Rattle.kpn_lang.proofs.Prefixes.{IsPrefix-append, rest_of_prefix}
+use Rattle.kpn_book.proofs.Common.{flat_map, cases_lt, false≢true, both_ways, or_left, get_or_past, IsPrefix, IsPrefix-append, rest_of_prefix, Tables, channel_at, is_source, is_sink, IsNetwork, Event, Put, Feed, written_in, written_on, is_closed, is_close_of, Legal, Legal-prefix, Legal-last, IsOwn-last, no_source, none_elsewhere, flat_map-same, written_on-same, is_closed-next}
 use Rattle.kpn_net.specs.declared.tables.ChannelSpec.{ChannelSpec}
 use Rattle.kpn_net.specs.declared.tables.ChannelSpec.TheVariants as channel
-use Rattle.kpn_net.specs.Tables.{Tables, channel_at, is_source, is_sink}
-use Rattle.kpn_net.specs.Faults.{IsNetwork}
-use Rattle.kpn_history.specs.declared.event.Event.{Event}
-use Rattle.kpn_history.specs.declared.event.Event.TheVariants.{Put, Feed}
-use Rattle.kpn_history.specs.Channels.{written_in, written_on, is_closed, is_close_of}
-use Rattle.kpn_history.specs.Legal.{Legal}
-use Rattle.kpn_history.proofs.Legality.{Legal-prefix, Legal-last}
-use Rattle.kpn_history.proofs.Ownership.{IsOwn-last}
-use Rattle.kpn_history.proofs.Journals.{no_source, none_elsewhere}
-use Rattle.kpn_history.proofs.Events.{flat_map-same, written_on-same}
-use Rattle.kpn_history.proofs.AfterEvent.{is_closed-next}
 
 -- ---- which channels
 

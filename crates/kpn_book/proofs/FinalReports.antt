@@ -1,29 +1,10 @@
 -- A report with a verdict is that of a final run. So two of them from the same lists are the same, and what another one
 -- has read of the sinks, it has read too.
-use Rattle.std.proofs.Common.{◌≡◌, ◌≢◌, ℕ, ◌<◌, ◌≤◌, true, false, ℤ, List, length, map, Option, Some, None, refl, sym, ap, ◌∙◌, subst, inl, inr, arith}
-use Rattle.std.proofs.lemmas.Bool.{both_ways}
-use Rattle.kpn_lang.proofs.Prefixes.{length_of_prefix}
-use Rattle.kpn_net.specs.Tables.{Tables, channel_at, is_sink}
-use Rattle.kpn_net.specs.Faults.{IsNetwork}
-use Rattle.kpn_net.specs.Iteration.{given_by}
-use Rattle.kpn_history.specs.declared.event.Event.{Event}
-use Rattle.kpn_history.specs.declared.state.Verdict.{Verdict}
+use Rattle.kpn_book.proofs.Common.{◌≡◌, ◌≢◌, ℕ, ◌<◌, ◌≤◌, true, false, ℤ, List, length, map, Option, Some, None, refl, sym, ap, ◌∙◌, subst, inl, inr, arith, both_ways, length_of_prefix, Tables, channel_at, is_sink, IsNetwork, given_by, Event, Verdict, written_on, read_on, is_left, IsSettled, IsVerdict, IsRunFrom, IsFinalRun, EndAlike, all_read, reads_begin_writes, one_verdict, made_no_more, end_alike, Limits, Outcome, Report, IsEnough, IsOutcome, verdict_of, events_of, sink_numbers, AreSupplied, IsReport}
 use Rattle.kpn_history.specs.declared.state.Verdict.TheVariants as verdict
-use Rattle.kpn_history.specs.Channels.{written_on, read_on, is_left}
-use Rattle.kpn_history.specs.Ends.{IsSettled, IsVerdict}
-use Rattle.kpn_history.specs.OneEnd.{IsRunFrom, IsFinalRun, EndAlike}
-use Rattle.kpn_history.proofs.Above.{all_read}
-use Rattle.kpn_history.proofs.Journals.{reads_begin_writes}
-use Rattle.kpn_history.proofs.Stops.{one_verdict}
-use Rattle.kpn_history.proofs.OneEnd.{made_no_more, end_alike}
 use Rattle.kpn_history.proofs.SameEnds.{same_verdict}
 use Rattle.kpn_history.proofs.SameViews.{same_view}
-use Rattle.kpn_book.specs.declared.outcome.Limits.{Limits}
-use Rattle.kpn_book.specs.declared.outcome.Outcome.{Outcome}
 use Rattle.kpn_book.specs.declared.outcome.Outcome.TheVariants.{Ended, Clogged, Jammed, Enough, Stopped}
-use Rattle.kpn_book.specs.declared.report.Report.{Report}
-use Rattle.kpn_book.specs.Outcomes.{IsEnough, IsOutcome, verdict_of}
-use Rattle.kpn_book.specs.Reports.{events_of, sink_numbers, AreSupplied, IsReport}
 use Rattle.kpn_book.proofs.Agreement.{fed_begins}
 use Rattle.kpn_book.proofs.Completing.{fed_from}
 

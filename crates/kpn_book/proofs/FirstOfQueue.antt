@@ -1,29 +1,10 @@
 -- The first process of the queue makes steps and is committed. It is held in between, though no state says so.
-use Rattle.std.proofs.Common.{◌≡◌, ◌≢◌, ℕ, ◌+◌, ◌-◌, ◌<◌, ◌≤◌, ◌^◌, ℤ, Bool, true, false, cond, is_some, List, [], ◌∷◌, ◌++◌, drop, slice_get, slice_index, Option, Some, None, Result, Ok, Err, refl, sym, ap, ◌∙◌, subst, arith, inl, inr}
-use Rattle.std.specs.List.{last_or}
-use Rattle.std.specs.Prelude.{OnErr}
-use Rattle.std.proofs.lemmas.Bool.{cases_eq, false≢true}
-use Rattle.std.proofs.lemmas.List.{set-set}
-use Rattle.kpn_net.specs.Tables.{Tables, instance_at, channel_at, is_sink}
-use Rattle.kpn_net.specs.Faults.{IsNetwork}
-use Rattle.kpn_step.specs.declared.stop.Stop.{Stop}
+use Rattle.kpn_book.proofs.Common.{◌≡◌, ◌≢◌, ℕ, ◌+◌, ◌-◌, ◌<◌, ◌≤◌, ◌^◌, ℤ, Bool, true, false, cond, is_some, List, [], ◌∷◌, ◌++◌, drop, slice_get, slice_index, Option, Some, None, Result, Ok, Err, refl, sym, ap, ◌∙◌, subst, arith, inl, inr, last_or, OnErr, cases_eq, false≢true, set-set, Tables, instance_at, channel_at, is_sink, IsNetwork, Stop, Advanced, IsAdvance, IsWithinQuota, Event, Held, is_held, last_or-push, Machine, with_frame, Schedule, IsSchedule, HoldsFirst, first_held, with_state, Done, Book, IsHeld, held_count, IsClaimed, standing_at, with_one_commit, IsWriteTo, IsAnswer, IsOwnAdvance, ready_if_paused, HandlesStop, IsKept, IsBook, StepsNext}
 use Rattle.kpn_step.specs.declared.stop.Stop.TheVariants as stop
-use Rattle.kpn_step.specs.Stops.{Advanced, IsAdvance, IsWithinQuota}
-use Rattle.kpn_history.specs.declared.event.Event.{Event}
 use Rattle.kpn_history.specs.declared.event.Event.TheVariants as event
-use Rattle.kpn_history.specs.declared.state.State.TheVariants.{Held}
-use Rattle.kpn_history.specs.Views.{is_held}
-use Rattle.kpn_history.proofs.Events.{last_or-push}
-use Rattle.kpn_machine.specs.Machine.{Machine, with_frame}
-use Rattle.kpn_book.specs.Schedule.{Schedule, IsSchedule, HoldsFirst, first_held, with_state}
 use Rattle.kpn_book.proofs.Waiting.{first_taken}
 use Rattle.kpn_book.proofs.Queueing.{HoldsFirst-popped}
-use Rattle.kpn_book.specs.declared.answers.Done.{Done}
 use Rattle.kpn_book.specs.declared.answers.Done.TheVariants as done
-use Rattle.kpn_book.specs.Book.{Book, IsHeld, held_count, IsClaimed, standing_at, with_one_commit}
-use Rattle.kpn_book.specs.Commits.{IsWriteTo, IsAnswer, IsOwnAdvance, ready_if_paused, HandlesStop}
-use Rattle.kpn_book.specs.Kept.{IsKept, IsBook}
-use Rattle.kpn_book.specs.Stepping.{StepsNext}
 use Rattle.kpn_book.specs.InARow.{PutsOnNoSink, puts_on, StepsInRow, no_step, one_step_more, RunsInRow, RunsInVain, StepsUncommitted}
 use Rattle.kpn_book.specs.declared.open_book.Hold.{Hold}
 use Rattle.kpn_book.specs.declared.open_book.Hold.TheVariants as hold

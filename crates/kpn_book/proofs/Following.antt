@@ -1,21 +1,6 @@
 -- One event that happens to a book: the book after it.
-use Rattle.std.proofs.Common.{◌≡◌, ℕ, ◌+◌, ◌<◌, true, false, eqb, List, [], ◌∷◌, ◌++◌, length, refl, sym, ap, ◌∙◌, subst, arith}
-use Rattle.std.proofs.lemmas.Bool.{eqb-true, false≢true}
-use Rattle.kpn_net.specs.Faults.{IsNetwork}
-use Rattle.kpn_history.specs.declared.event.Event.{Event}
-use Rattle.kpn_history.specs.Recorded.{Recorded}
-use Rattle.kpn_history.specs.Talks.{is_of}
-use Rattle.kpn_history.specs.Legal.{Legal}
-use Rattle.kpn_history.specs.declared.state.State.TheVariants.{Held}
-use Rattle.kpn_machine.specs.Machine.{Machine, end_in, wait_in, IsMachine, IsFree}
-use Rattle.kpn_machine.specs.Changes.{Changes}
+use Rattle.kpn_book.proofs.Common.{◌≡◌, ℕ, ◌+◌, ◌<◌, true, false, eqb, List, [], ◌∷◌, ◌++◌, length, refl, sym, ap, ◌∙◌, subst, arith, eqb-true, false≢true, IsNetwork, Event, Recorded, is_of, Legal, Held, Machine, end_in, wait_in, IsMachine, IsFree, Changes, Tables, sizes, Schedule, state_at, Book, IsHeld, own_part, woken_by, all_made_ready, schedule_after, IsStateBy, IsInStep}
 use Rattle.kpn_machine.proofs.Running.{IsRun-next}
-use Rattle.kpn_net.specs.Tables.{Tables}
-use Rattle.kpn_net.proofs.Networks.{sizes}
-use Rattle.kpn_book.specs.Schedule.{Schedule, state_at}
-use Rattle.kpn_book.specs.Book.{Book, IsHeld}
-use Rattle.kpn_book.specs.Appending.{own_part, woken_by, all_made_ready, schedule_after}
-use Rattle.kpn_book.specs.Kept.{IsStateBy, IsInStep}
 use Rattle.kpn_book.specs.Open.{MayBeReady, Follows, of_process}
 use Rattle.kpn_book.proofs.Woken.{EndsThere, woken_distinct}
 use Rattle.kpn_book.proofs.InStep.{woken_may_be_ready, woken_not_held, agree_after, length_after}

@@ -1,20 +1,6 @@
 -- Turns of which nobody sees the order. A commit that leaves its process the first of the queue is one after which the
 -- queue is in another order.
-use Rattle.std.proofs.Common.{◌≡◌, ◌≢◌, ℕ, ◌+◌, ◌<◌, ◌≤◌, ◌^◌, true, false, is_some, List, [], ◌∷◌, ◌++◌, length, set, drop, slice_get, Option, Some, None, refl, sym, ap, ◌∙◌, subst, arith}
-use Rattle.std.specs.Option.{option_to_list}
-use Rattle.std.proofs.lemmas.Bool.{false≢true}
-use Rattle.std.proofs.lemmas.List.{set-set, set-get_or}
-use Rattle.kpn_net.proofs.Cycles.{Contains-first}
-use Rattle.kpn_step.specs.Stops.{Advanced, IsAdvance, IsWithinQuota}
-use Rattle.kpn_history.specs.declared.state.State.TheVariants.{Ready, Held}
-use Rattle.kpn_history.specs.Views.{is_ready}
-use Rattle.kpn_machine.specs.Machine.{Machine, with_frame}
-use Rattle.kpn_book.specs.Schedule.{Schedule, state_at, IsSchedule, HoldsFirst, first_held, made_ready}
-use Rattle.kpn_book.specs.Book.{Book, held_count, with_one_commit}
-use Rattle.kpn_book.specs.Appending.{all_made_ready}
-use Rattle.kpn_book.specs.Commits.{IsOwnAdvance}
-use Rattle.kpn_book.specs.Kept.{IsKept, IsBook}
-use Rattle.kpn_book.specs.InARow.{StepsUncommitted}
+use Rattle.kpn_book.proofs.Common.{◌≡◌, ◌≢◌, ℕ, ◌+◌, ◌<◌, ◌≤◌, ◌^◌, true, false, is_some, List, [], ◌∷◌, ◌++◌, length, set, drop, slice_get, Option, Some, None, refl, sym, ap, ◌∙◌, subst, arith, option_to_list, false≢true, set-set, set-get_or, Contains-first, Advanced, IsAdvance, IsWithinQuota, Ready, Held, is_ready, Machine, with_frame, Schedule, state_at, IsSchedule, HoldsFirst, first_held, made_ready, Book, held_count, with_one_commit, all_made_ready, IsOwnAdvance, IsKept, IsBook, StepsUncommitted}
 use Rattle.kpn_book.specs.GoingOn.{IsReordered, TurnsInAnyOrder, no_turn, another_order, steps_on, one_turn_more, RunsInAnyOrder, AnyOrderInVain}
 use Rattle.kpn_book.specs.Open.{first_claimed, with_ready, MayBeReady, HandlesAhead, IsTurn, IsTurnAhead, GoesFurther}
 use Rattle.kpn_book.proofs.Queueing.{scheduled, rotated, IsSchedule-rotated, IsSchedule-made_ready}

@@ -1,17 +1,7 @@
 -- What an event makes of a book together with the growth that is owed then. A growth changes nothing in what was
 -- written, what was read and what is closed.
 use Rattle.std.proofs.Common.{◌≡◌, ℕ, Bool, true, false, ◌||◌, ℤ, List, [], ◌∷◌, ◌++◌, refl, sym, ap, ◌∙◌, subst, inl, inr, append_assoc}
-use Rattle.kpn_lang.specs.Prefix.{IsPrefix}
-use Rattle.kpn_lang.proofs.Prefixes.{IsPrefix-append}
-use Rattle.kpn_history.specs.declared.event.Event.{Event}
-use Rattle.kpn_history.specs.declared.event.Event.TheVariants.{Grow}
-use Rattle.kpn_history.specs.Channels.{written_on, read_on, is_leave_of, is_closed, is_left}
-use Rattle.kpn_history.specs.Stops.{OwesNothing}
-use Rattle.kpn_history.proofs.Events.{written_on-same, read_on-same}
-use Rattle.kpn_history.proofs.AfterEvent.{is_closed-next, is_left-next}
-use Rattle.kpn_book.specs.Book.{Book}
-use Rattle.kpn_book.specs.Kept.{IsBook}
-use Rattle.kpn_book.specs.Appending.{Appends, AppendsAll, IsGrowthOwed, Happens, AllHappen}
+use Rattle.kpn_book.proofs.Common.{IsPrefix, IsPrefix-append, Event, Grow, written_on, read_on, is_leave_of, is_closed, is_left, OwesNothing, written_on-same, read_on-same, is_closed-next, is_left-next, Book, IsBook, Appends, AppendsAll, IsGrowthOwed, Happens, AllHappen}
 use Rattle.kpn_book.proofs.Appended.{tables_stay, history_then, commits_stay}
 
 module _ (e : Event) (before after : Book) (is : Happens e before after) where

@@ -1,42 +1,10 @@
 -- Only a process that was held before a call is held after it.
-use Rattle.std.proofs.Common.{◌≡◌, ℕ, ◌+◌, ◌<◌, ◌⊎◌, Bool, true, false, cond, ℤ, List, [], ◌∷◌, ◌++◌, length, set, get_or, Option, Some, None, refl, sym, ap, ◌∙◌, subst, inl, inr, arith}
+use Rattle.kpn_book.proofs.Common.{◌≡◌, ℕ, ◌+◌, ◌<◌, ◌⊎◌, Bool, true, false, cond, ℤ, List, [], ◌∷◌, ◌++◌, length, set, get_or, Option, Some, None, refl, sym, ap, ◌∙◌, subst, inl, inr, arith, Contains-append_cases, option_to_list, cases_eq, ne_eqb, false≢true, length-set, get_or-set_same, get_or-set_other, Wait, Nobody, Empty, Full, End, Process, Source, Sink, Tables, larger_capacity, writer_of, reader_of, IsNetwork, wait_at, AreWaits, Writes-writer_of, Reads-reader_of, Contains-none, Stop, Advanced, How, Event, State, capacity_or_zero, is_held, wait_then, Machine, wait_in, end_in, is_wait_on_full, is_wait_on_empty, waiting_at, waiting_writer, waiting_reader, woken_at_end, Schedule, state_at, made_ready, Done, Book, held_count, standing_at, with_one_commit, IsClaimed, IsBook, IsStateBy, AppendsAll, all_made_ready, own_part, woken_by, IsGrowthOwed, Happens, IsAnswer, ready_if_paused, Feeds, Takes, takes_item, StepsNext}
 use Rattle.std.specs.List.{Contains}
-use Rattle.std.proofs.lemmas.List.Elements.{Contains-append_cases}
-use Rattle.std.specs.Option.{option_to_list}
-use Rattle.std.proofs.lemmas.Bool.{cases_eq, ne_eqb, false≢true}
-use Rattle.std.proofs.lemmas.List.{length-set, get_or-set_same, get_or-set_other}
-use Rattle.kpn_net.specs.declared.wait.Wait.{Wait}
-use Rattle.kpn_net.specs.declared.wait.Wait.TheVariants.{Nobody, Empty, Full}
-use Rattle.kpn_net.specs.declared.tables.End.{End}
-use Rattle.kpn_net.specs.declared.tables.End.TheVariants.{Process, Source, Sink}
-use Rattle.kpn_net.specs.Tables.{Tables, larger_capacity, writer_of, reader_of}
-use Rattle.kpn_net.specs.Faults.{IsNetwork}
-use Rattle.kpn_net.specs.Waits.{wait_at, AreWaits}
-use Rattle.kpn_net.proofs.Networks.{Writes-writer_of, Reads-reader_of}
-use Rattle.kpn_net.proofs.Cycles.{Contains-none}
-use Rattle.kpn_step.specs.declared.stop.Stop.{Stop}
-use Rattle.kpn_step.specs.Stops.{Advanced}
-use Rattle.kpn_history.specs.declared.event.How.{How}
 use Rattle.kpn_history.specs.declared.event.How.TheVariants as how
-use Rattle.kpn_history.specs.declared.event.Event.{Event}
 use Rattle.kpn_history.specs.declared.event.Event.TheVariants as event
-use Rattle.kpn_history.specs.declared.state.State.{State}
 use Rattle.kpn_history.specs.declared.state.State.TheVariants.{Ready, Held, WaitsEmpty, WaitsFull, Ended}
-use Rattle.kpn_history.specs.Channels.{capacity_or_zero}
-use Rattle.kpn_history.specs.Views.{is_held}
-use Rattle.kpn_history.specs.Waking.{wait_then}
-use Rattle.kpn_machine.specs.Machine.{Machine, wait_in, end_in}
-use Rattle.kpn_machine.specs.Woken.{is_wait_on_full, is_wait_on_empty, waiting_at, waiting_writer, waiting_reader}
-use Rattle.kpn_machine.proofs.Waking.{woken_at_end}
-use Rattle.kpn_book.specs.Schedule.{Schedule, state_at, made_ready}
-use Rattle.kpn_book.specs.declared.answers.Done.{Done}
 use Rattle.kpn_book.specs.declared.answers.Done.TheVariants as done
-use Rattle.kpn_book.specs.Book.{Book, held_count, standing_at, with_one_commit, IsClaimed}
-use Rattle.kpn_book.specs.Kept.{IsBook, IsStateBy}
-use Rattle.kpn_book.specs.Appending.{AppendsAll, all_made_ready, own_part, woken_by, IsGrowthOwed, Happens}
-use Rattle.kpn_book.specs.Commits.{IsAnswer, ready_if_paused}
-use Rattle.kpn_book.specs.Refusals.{Feeds, Takes, takes_item}
-use Rattle.kpn_book.specs.Stepping.{StepsNext}
 use Rattle.kpn_book.proofs.Woken.{only_one}
 use Rattle.kpn_book.proofs.CommitCounts.{held_in, held_less, held_more, held_as_before}
 

@@ -1,20 +1,11 @@
 -- Turns in a row: each of them goes on where the one before it has led.
 use Rattle.std.proofs.Common.{◌≡◌, ℕ, ◌+◌, ◌-◌, ◌<◌, ◌≤◌, max, Bool, true, false, [], ◌∷◌, Option, Some, None, refl, sym, ap, ◌∙◌, subst, inl, inr, arith, length, eq-eqb}
-use Rattle.std.proofs.lemmas.Bool.{false≢true}
+use Rattle.kpn_book.proofs.Common.{false≢true, Done, Book, ClaimsNobody, Limits, IsEnough, IsOutcome, unread_on, unread_length, IsBook, IsLeftToItself, IsLater, IsFrontStepped, IsCommitted, HasPutOn, sinks_after, has_put, IsStepped, AreStepped}
 use Rattle.kpn_history.specs.Views.{is_stopped}
-use Rattle.kpn_book.specs.declared.answers.Done.{Done}
 use Rattle.kpn_book.specs.declared.answers.Done.TheVariants as done
-use Rattle.kpn_book.specs.Book.{Book}
-use Rattle.kpn_book.specs.Stepping.{ClaimsNobody}
 use Rattle.kpn_book.specs.InARow.{PutsOnNoSink, IsStepInRow, StepsInRow, no_step, one_step_more, RunsInRow}
 use Rattle.kpn_book.proofs.Seen.{not_settled}
-use Rattle.kpn_book.specs.declared.outcome.Limits.{Limits}
-use Rattle.kpn_book.specs.Outcomes.{IsEnough, IsOutcome}
-use Rattle.kpn_history.specs.Channels.{unread_on}
-use Rattle.kpn_history.proofs.OneMore.{unread_length}
-use Rattle.kpn_book.specs.Kept.{IsBook}
 use Rattle.kpn_book.specs.RunHere.{IsBeforeTurn, Turns, one_turn_more}
-use Rattle.kpn_book.specs.Running.{IsLeftToItself, IsLater, IsFrontStepped, IsCommitted, HasPutOn, sinks_after, has_put, IsStepped, AreStepped}
 use Rattle.kpn_book.proofs.Stepped.{IsLater-refl, IsLater-trans, turned, not_put, put_inside_stepped, step_commits}
 
 -- ---- one turn

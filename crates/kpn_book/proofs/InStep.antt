@@ -1,28 +1,10 @@
 -- After an event the schedule agrees with the machine, if it did before.
 use Rattle.std.proofs.Common.{◌≡◌, ℕ, ◌<◌, Bool, true, false, cond, eqb, eq-eqb, List, length, set, get_or, Option, Some, None, refl, sym, ap, ◌∙◌, subst, arith}
 use Rattle.std.specs.List.{Contains}
-use Rattle.std.proofs.lemmas.Bool.{false≢true, both_ways, eqb-true}
-use Rattle.std.proofs.lemmas.List.{length-set, get_or-set_same, get_or-set_other}
-use Rattle.kpn_net.specs.declared.wait.Wait.{Wait}
-use Rattle.kpn_net.specs.declared.wait.Wait.TheVariants.{Nobody, Empty, Full}
-use Rattle.kpn_net.specs.Tables.{Tables}
-use Rattle.kpn_net.specs.Faults.{IsNetwork}
-use Rattle.kpn_history.specs.declared.event.How.{How}
-use Rattle.kpn_history.specs.declared.event.Event.{Event}
+use Rattle.kpn_book.proofs.Common.{false≢true, both_ways, eqb-true, length-set, get_or-set_same, get_or-set_other, Wait, Nobody, Empty, Full, Tables, IsNetwork, How, Event, State, is_of, is_ready, is_held, wakes, Machine, wait_in, end_in, IsRun, Changes, end_then, ended_waits_for_nobody, Schedule, state_at, own_part, woken_by, schedule_after, IsStateBy}
 use Rattle.kpn_history.specs.declared.event.Event.TheVariants as event
-use Rattle.kpn_history.specs.declared.state.State.{State}
 use Rattle.kpn_history.specs.declared.state.State.TheVariants.{Ready, Held, WaitsEmpty, WaitsFull, Ended}
-use Rattle.kpn_history.specs.Talks.{is_of}
-use Rattle.kpn_history.specs.Views.{is_ready, is_held}
 use Rattle.kpn_history.specs.WaitsAfter.{wait_made}
-use Rattle.kpn_history.specs.Waking.{wakes}
-use Rattle.kpn_machine.specs.Machine.{Machine, wait_in, end_in}
-use Rattle.kpn_machine.specs.Run.{IsRun}
-use Rattle.kpn_machine.specs.Changes.{Changes, end_then}
-use Rattle.kpn_machine.proofs.Moments.{ended_waits_for_nobody}
-use Rattle.kpn_book.specs.Schedule.{Schedule, state_at}
-use Rattle.kpn_book.specs.Appending.{own_part, woken_by, schedule_after}
-use Rattle.kpn_book.specs.Kept.{IsStateBy}
 use Rattle.kpn_book.proofs.AllReady.{states_length, are_ready, are_as_before}
 use Rattle.kpn_book.proofs.Woken.{EndsThere, among_wakes, wakes_among}
 

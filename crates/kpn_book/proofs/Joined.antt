@@ -1,23 +1,6 @@
 -- The book with the events of a batch is kept.
-use Rattle.std.proofs.Common.{◌≡◌, ◌⊎◌, ℕ, ◌+◌, ◌<◌, ◌^◌, Bool, true, false, cond, List, ◌++◌, length, get_or, None, refl, sym, ap, ◌∙◌, subst, inl, inr, arith}
-use Rattle.std.specs.List.{range_with_len}
-use Rattle.std.proofs.lemmas.List.Sums.{sum_by-append}
-use Rattle.kpn_net.specs.declared.wait.Wait.{Wait}
-use Rattle.kpn_net.specs.declared.wait.Wait.TheVariants.{Nobody, Empty, Full}
-use Rattle.kpn_history.specs.Recorded.{Recorded}
-use Rattle.kpn_history.specs.Talks.{is_of_process, process_events}
-use Rattle.kpn_history.specs.Stops.{OwesNothing}
-use Rattle.kpn_machine.specs.Machine.{Machine, end_in, wait_in}
-use Rattle.kpn_machine.specs.Run.{IsRun}
-use Rattle.kpn_region.specs.Local.{SideState, is_in_region}
+use Rattle.kpn_book.proofs.Common.{◌≡◌, ◌⊎◌, ℕ, ◌+◌, ◌<◌, ◌^◌, Bool, true, false, cond, List, ◌++◌, length, get_or, None, refl, sym, ap, ◌∙◌, subst, inl, inr, arith, range_with_len, sum_by-append, Wait, Nobody, Empty, Full, Recorded, is_of_process, process_events, OwesNothing, Machine, end_in, wait_in, IsRun, SideState, is_in_region, Batch, has_put_items, has_taken, wait_joined, Joins, Schedule, state_at, region_woken, Book, IsStateBy, IsKept, with_batch}
 use Rattle.kpn_region.specs.Turn.{side_in}
-use Rattle.kpn_region.specs.Batch.{Batch}
-use Rattle.kpn_region.specs.Joining.{has_put_items, has_taken, wait_joined, Joins}
-use Rattle.kpn_book.specs.Schedule.{Schedule, state_at}
-use Rattle.kpn_book.specs.Regions.{region_woken}
-use Rattle.kpn_book.specs.Book.{Book}
-use Rattle.kpn_book.specs.Kept.{IsStateBy, IsKept}
-use Rattle.kpn_book.specs.BatchCommits.{with_batch}
 use Rattle.kpn_book.proofs.Queueing.{range_has}
 use Rattle.kpn_book.proofs.Following.{recorded, moved, same_recorded}
 use Rattle.kpn_book.proofs.Regions.{length_woken, held_at_most, agrees_then, stands_so}

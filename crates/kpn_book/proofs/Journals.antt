@@ -1,6 +1,5 @@
 -- A list begins with another if and only if its first items, as many as the other has, are the other.
-use Rattle.std.proofs.Common.{◌≡◌, List, [], ◌∷◌, length, take, refl, ap, ◌∙◌}
-use Rattle.kpn_lang.specs.Prefix.{IsPrefix}
+use Rattle.kpn_book.proofs.Common.{◌≡◌, List, [], ◌∷◌, length, take, refl, ap, ◌∙◌, IsPrefix}
 
 pub prefix_from_take : {A : Type 0} (xs ys : List A) → xs ≡ take (length xs) ys → IsPrefix xs ys
 prefix_from_take [] ys is = tt

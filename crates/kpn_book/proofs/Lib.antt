@@ -1,3 +1,4 @@
+pub mod Common
 pub mod Tallies
 pub mod Queueing
 pub mod Waiting

@@ -1,34 +1,9 @@
 -- In this many rounds of the queue the run on one thread has made what another history has made.
-use Rattle.std.proofs.Common.{◌≡◌, ◌≢◌, ℕ, zero, suc, ◌+◌, ◌*◌, ◌-◌, ◌<◌, ◌≤◌, ◌⊎◌, max, true, false, List, [], ◌∷◌, ◌++◌, length, refl, sym, ap, ◌∙◌, subst, inl, inr, arith, length-append}
-use Rattle.std.proofs.lemmas.Bool.{cases_Bool, cases_lt}
-use Rattle.std.proofs.lemmas.List.Sums.{count_by-le-length}
-use Rattle.kpn_lang.specs.Prefix.{IsPrefix}
-use Rattle.kpn_lang.proofs.Prefixes.{IsPrefix-refl, IsPrefix-trans, IsPrefix-after, same_from_prefix}
-use Rattle.kpn_net.specs.Tables.{Tables, instance_at, program_of}
-use Rattle.kpn_net.specs.Faults.{IsNetwork}
-use Rattle.kpn_net.specs.Process.{Family}
+use Rattle.kpn_book.proofs.Common.{◌≡◌, ◌≢◌, ℕ, zero, suc, ◌+◌, ◌*◌, ◌-◌, ◌<◌, ◌≤◌, ◌⊎◌, max, true, false, List, [], ◌∷◌, ◌++◌, length, refl, sym, ap, ◌∙◌, subst, inl, inr, arith, length-append, cases_Bool, cases_lt, count_by-le-length, IsPrefix, IsPrefix-refl, IsPrefix-trans, IsPrefix-after, same_from_prefix, Tables, instance_at, program_of, IsNetwork, Family, Frame, start_frame, Step, Stops, Faults, Goes, Steps, step_of, IsBetween, Steps-append, Event, State, is_of, talk_of, HasStopped, OwesNothing, IsRunFrom, HasMade, IsCaughtUp, HasGone, stopped_state, own_below, run_begun, made_later, ahead_is_made, next_is_made, others_are_made, frame_in, state_at, Book, standing_at, Limits, IsBeforeTurn, Turns}
 use Rattle.kpn_step.specs.declared.stop.Stop.TheVariants as stop
-use Rattle.kpn_step.specs.Frame.{Frame, start_frame}
-use Rattle.kpn_step.specs.Step.{Step, Stops, Faults, Goes, Steps, step_of}
-use Rattle.kpn_step.specs.Stops.{IsBetween}
-use Rattle.kpn_step.proofs.StepCases.{Steps-append}
-use Rattle.kpn_history.specs.declared.event.Event.{Event}
-use Rattle.kpn_history.specs.declared.state.State.{State}
 use Rattle.kpn_history.specs.declared.state.State.TheVariants.{Ready, Held, WaitsEmpty, WaitsFull, Ended}
-use Rattle.kpn_history.specs.Talks.{is_of, talk_of}
 use Rattle.kpn_history.specs.Views.{is_ready, is_held, is_stopped}
-use Rattle.kpn_history.specs.Ends.{HasStopped}
-use Rattle.kpn_history.specs.Stops.{OwesNothing}
-use Rattle.kpn_history.specs.OneEnd.{IsRunFrom}
-use Rattle.kpn_history.specs.Progress.{HasMade, IsCaughtUp, HasGone}
-use Rattle.kpn_history.proofs.States.{stopped_state}
 use Rattle.kpn_history.proofs.Standing.{run_before}
-use Rattle.kpn_history.proofs.Progress.{own_below, run_begun, made_later, ahead_is_made, next_is_made, others_are_made}
-use Rattle.kpn_machine.specs.Machine.{frame_in}
-use Rattle.kpn_book.specs.Schedule.{state_at}
-use Rattle.kpn_book.specs.Book.{Book, standing_at}
-use Rattle.kpn_book.specs.declared.outcome.Limits.{Limits}
-use Rattle.kpn_book.specs.RunHere.{IsBeforeTurn, Turns}
 use Rattle.kpn_book.specs.Progress.{ComesAfter, tried_at, PausesFrom, PausesAfter, HasJustHalted, PausesAtMost, TakesRounds, no_event, of_process, of_nobody}
 use Rattle.kpn_book.proofs.Tallies.{not_counted}
 use Rattle.kpn_book.proofs.Standing.{states_now}

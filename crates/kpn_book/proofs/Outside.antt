@@ -1,21 +1,6 @@
 -- What the calls of the outside do.
-use Rattle.std.proofs.Common.{◌≡◌, is_some, cond, slice_get, ℕ, ◌<◌, ℤ, true, false, List, [], ◌∷◌, ◌++◌, length, Some, None, refl, sym, ap, ◌∙◌, subst, arith}
-use Rattle.std.proofs.lemmas.Bool.{false≢true}
-use Rattle.kpn_net.specs.Tables.{channel_at, is_source, is_sink}
-use Rattle.kpn_net.specs.Faults.{IsNetwork}
-use Rattle.kpn_chan.specs.Channel.{ChannelState, unread, next_item, with_room}
-use Rattle.kpn_history.specs.declared.event.Event.{Event}
-use Rattle.kpn_history.specs.Recorded.{Recorded}
+use Rattle.kpn_book.proofs.Common.{◌≡◌, is_some, cond, slice_get, ℕ, ◌<◌, ℤ, true, false, List, [], ◌∷◌, ◌++◌, length, Some, None, refl, sym, ap, ◌∙◌, subst, arith, false≢true, channel_at, is_source, is_sink, IsNetwork, ChannelState, unread, next_item, with_room, Event, Recorded, Machine, channel_in, closed_in, with_channel, IsMachine, Changes, Legal-due, Schedule, Book, Appends, Happens, all_made_ready, woken_by, IsAtBound, Feeds, Closes, closes_by, Takes, Leaves, leaves_by, Follows, IsSound, reserved_on, IsKept}
 use Rattle.kpn_history.specs.declared.event.Event.TheVariants as event
-use Rattle.kpn_machine.specs.Machine.{Machine, channel_in, closed_in, with_channel, IsMachine}
-use Rattle.kpn_machine.specs.Changes.{Changes}
-use Rattle.kpn_machine.proofs.Due.{Legal-due}
-use Rattle.kpn_book.specs.Schedule.{Schedule}
-use Rattle.kpn_book.specs.Book.{Book}
-use Rattle.kpn_book.specs.Appending.{Appends, Happens, all_made_ready, woken_by}
-use Rattle.kpn_book.specs.Refusals.{IsAtBound, Feeds, Closes, closes_by, Takes, Leaves, leaves_by}
-use Rattle.kpn_book.specs.Open.{Follows, IsSound, reserved_on}
-use Rattle.kpn_book.specs.Kept.{IsKept}
 use Rattle.kpn_book.proofs.Following.{recorded, moved, same_recorded, followed, own_none}
 use Rattle.kpn_book.proofs.Committing.{kept_reserved_on, source_there}
 use Rattle.kpn_book.proofs.Reserved.{appends_unreserved}

@@ -1,16 +1,8 @@
 -- The parts of a report by number.
-use Rattle.std.proofs.Common.{◌≡◌, ℕ, zero, suc, ◌+◌, ◌<◌, ◌≤◌, Bool, true, false, cond, List, [], ◌∷◌, ◌++◌, length, map, get_or, refl, sym, ap, ◌∙◌, subst, arith, append-nil}
+use Rattle.kpn_book.proofs.Common.{◌≡◌, ℕ, zero, suc, ◌+◌, ◌<◌, ◌≤◌, Bool, true, false, cond, List, [], ◌∷◌, ◌++◌, length, map, get_or, refl, sym, ap, ◌∙◌, subst, arith, append-nil, get_or-map, length-map, map-append, get_or_past, filter-append, Tables, channel_at, is_sink, channel_numbers, Contains-first, Contains-later, Event, read_on, sink_numbers, read_of_sinks}
 use Rattle.std.specs.List.{Contains, filter, range_with_len}
-use Rattle.std.proofs.lemmas.List.{get_or-map, length-map, map-append, get_or_past}
-use Rattle.std.proofs.lemmas.List.Elements.{filter-append}
 use Rattle.kpn_book.proofs.Queueing.{range_next}
-use Rattle.kpn_net.specs.Tables.{Tables, channel_at, is_sink}
-use Rattle.kpn_net.specs.Faults.{channel_numbers}
-use Rattle.kpn_net.proofs.Cycles.{Contains-first, Contains-later}
-use Rattle.kpn_history.specs.declared.event.Event.{Event}
-use Rattle.kpn_history.specs.Channels.{read_on}
 use Rattle.kpn_book.proofs.Agreeing.{number_below}
-use Rattle.kpn_book.specs.Reports.{sink_numbers, read_of_sinks}
 
 -- ---- lists
 

@@ -1,14 +1,7 @@
 -- A network whose programs have no cells: a frame is as large as that of a program without them.
-use Rattle.std.proofs.Common.{◌≡◌, ℕ, ◌+◌, ◌<◌, ◌≤◌, false, length, arith}
-use Rattle.std.specs.Prelude.{nat_lt}
-use Rattle.std.proofs.lemmas.Bool.{ltb-false}
-use Rattle.kpn_lang.specs.Parts.{Parts}
+use Rattle.kpn_book.proofs.Common.{◌≡◌, ℕ, ◌+◌, ◌<◌, ◌≤◌, false, length, arith, nat_lt, ltb-false, Parts, Tables, instance_at, program_of, any_has_cells, IsNetwork, IsInstance-at, IsProgram-of, list_any_fails_at, Machine, frame_in, IsMachine}
 use Rattle.kpn_lang.proofs.Programs.{limits}
-use Rattle.kpn_net.specs.Tables.{Tables, instance_at, program_of, any_has_cells}
-use Rattle.kpn_net.specs.Faults.{IsNetwork}
-use Rattle.kpn_net.proofs.Networks.{IsInstance-at, IsProgram-of, list_any_fails_at}
 use Rattle.kpn_step.proofs.Places.{Fits-from}
-use Rattle.kpn_machine.specs.Machine.{Machine, frame_in, IsMachine}
 
 no_cells_of : (t : Tables) → IsNetwork t → any_has_cells t ≡ false → (p : ℕ) → p < length t.instances
     → (program_of t p).free + length (program_of t p).tables ≤ 0

@@ -1,32 +1,12 @@
 -- Turn by turn, the run on one thread makes what another history has made. The next event of that is of a process that
 -- is in the queue, if it has not come: within a round the process has its turn. Then it makes its next event, or it
 -- pauses on the way to it.
-use Rattle.std.specs.List.{flat_map}
+use Rattle.kpn_book.proofs.Common.{flat_map, cases_Bool, cases_eq, both_ways, eqb-true, ne_eqb, false≢true, Statement, Tables, channel_at, is_source, is_sink, instance_at, program_of, channel_numbers, Family, Frame, start_frame, Step, Stops, Faults, Goes, Steps, step_on, step_of, IsBetween, Event, is_of, is_of_process, said_in, talk_of, last_event, IsHalt, unread_on, Some-event, talk_of-push, last_event-own, last_event-other, frame_in, IsFrameAfter, Schedule, made_ready, Book, own_part, all_made_ready, woken_by, Appends, AppendsAll, IsGrowthOwed, AllHappen, supply_of, supplies, takes_of, takes_from_sinks, PassesStop, Says, ComesAfter, tried_at}
 use Rattle.std.proofs.Common.{◌≡◌, ◌≢◌, ℕ, zero, suc, ◌+◌, ◌<◌, ◌≤◌, Bool, true, false, cond, eqb, eq-eqb, ℤ, List, [], ◌∷◌, ◌++◌, length, map, Some, refl, sym, ap, ◌∙◌, subst, inl, inr, arith, append_assoc, append-nil}
-use Rattle.std.proofs.lemmas.Bool.{cases_Bool, cases_eq, both_ways, eqb-true, ne_eqb, false≢true}
 use Rattle.kpn_lang.specs.declared.talk.Said.{Said}
 use Rattle.kpn_lang.specs.declared.talk.Said.TheVariants as said
-use Rattle.kpn_lang.specs.Syntax.{Statement}
-use Rattle.kpn_net.specs.Tables.{Tables, channel_at, is_source, is_sink, instance_at, program_of}
-use Rattle.kpn_net.specs.Faults.{channel_numbers}
-use Rattle.kpn_net.specs.Process.{Family}
 use Rattle.kpn_step.specs.declared.stop.Stop.TheVariants as stop
-use Rattle.kpn_step.specs.Frame.{Frame, start_frame}
-use Rattle.kpn_step.specs.Step.{Step, Stops, Faults, Goes, Steps, step_on, step_of}
-use Rattle.kpn_step.specs.Stops.{IsBetween}
-use Rattle.kpn_history.specs.declared.event.Event.{Event}
 use Rattle.kpn_history.specs.declared.event.Event.TheVariants as event
-use Rattle.kpn_history.specs.Talks.{is_of, is_of_process, said_in, talk_of, last_event}
-use Rattle.kpn_history.specs.Progress.{IsHalt}
-use Rattle.kpn_history.specs.Channels.{unread_on}
-use Rattle.kpn_history.proofs.Events.{Some-event, talk_of-push, last_event-own, last_event-other}
-use Rattle.kpn_machine.specs.Machine.{frame_in}
-use Rattle.kpn_machine.specs.Changes.{IsFrameAfter}
-use Rattle.kpn_book.specs.Schedule.{Schedule, made_ready}
-use Rattle.kpn_book.specs.Book.{Book}
-use Rattle.kpn_book.specs.Appending.{own_part, all_made_ready, woken_by, Appends, AppendsAll, IsGrowthOwed, AllHappen}
-use Rattle.kpn_book.specs.RunHere.{supply_of, supplies, takes_of, takes_from_sinks}
-use Rattle.kpn_book.specs.Progress.{PassesStop, Says, ComesAfter, tried_at}
 
 -- ---- steps of one process
 

@@ -1,17 +1,6 @@
 -- The queue of a schedule as its states change.
-use Rattle.std.proofs.Common.{◌≡◌, ℕ, zero, suc, ◌+◌, ◌<◌, ◌≤◌, false, cond, List, [], ◌∷◌, ◌++◌, length, set, get_or, drop, slice_get, Some, count_by, refl, sym, ap, ◌∙◌, subst, inl, inr, arith, length-append}
+use Rattle.kpn_book.proofs.Common.{◌≡◌, ℕ, zero, suc, ◌+◌, ◌<◌, ◌≤◌, false, cond, List, [], ◌∷◌, ◌++◌, length, set, get_or, drop, slice_get, Some, count_by, refl, sym, ap, ◌∙◌, subst, inl, inr, arith, length-append, cases_eq, both_ways, length-replicate, length-set, get_or-set_same, get_or-set_other, get_or-replicate, set-set, set-get_or, Contains-append_left, Contains-append_cases, Contains-push, length-range_with_len, get_or-range_with_len, count_by-le-length, AreDistinct, Contains-first, Contains-later, Contains-cases, Contains-none, State, Ready, Held, is_ready, Schedule, IsSchedule, HoldsFirst, all_ready, first_held, made_ready, with_state}
 use Rattle.std.specs.List.{Contains, range_with_len}
-use Rattle.std.proofs.lemmas.Bool.{cases_eq, both_ways}
-use Rattle.std.proofs.lemmas.List.{length-replicate, length-set, get_or-set_same, get_or-set_other, get_or-replicate, set-set, set-get_or}
-use Rattle.std.proofs.lemmas.List.Elements.{Contains-append_left, Contains-append_cases, Contains-push}
-use Rattle.std.proofs.lemmas.List.FromFn.{length-range_with_len, get_or-range_with_len}
-use Rattle.std.proofs.lemmas.List.Sums.{count_by-le-length}
-use Rattle.kpn_net.specs.Waits.{AreDistinct}
-use Rattle.kpn_net.proofs.Cycles.{Contains-first, Contains-later, Contains-cases, Contains-none}
-use Rattle.kpn_history.specs.declared.state.State.{State}
-use Rattle.kpn_history.specs.declared.state.State.TheVariants.{Ready, Held}
-use Rattle.kpn_history.specs.Views.{is_ready}
-use Rattle.kpn_book.specs.Schedule.{Schedule, IsSchedule, HoldsFirst, all_ready, first_held, made_ready, with_state}
 use Rattle.kpn_book.proofs.Waiting.{first_taken}
 use Rattle.kpn_book.proofs.Tallies.{count_set, AreCounts-ready}
 

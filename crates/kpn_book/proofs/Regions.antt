@@ -1,23 +1,8 @@
 -- The processes of a region become held, are put back or are woken.
 use Rattle.std.proofs.Common.{◌≡◌, ℕ, ◌+◌, ◌<◌, ◌≤◌, ◌^◌, ◌⊎◌, Bool, true, false, not, ◌&&◌, cond, List, [], ◌∷◌, ◌++◌, length, set, get_or, drop, slice_get, Option, Some, None, refl, sym, ap, ◌∙◌, subst, inl, inr, arith, append-nil, append_assoc, length-append}
 use Rattle.std.specs.List.{Contains, filter}
-use Rattle.std.proofs.lemmas.Bool.{cases_eq, cases_lt, both_ways, false≢true}
-use Rattle.std.proofs.lemmas.List.{length-set, get_or-set_same, get_or-set_other, get_or_past, set-set, set-get_or}
-use Rattle.std.proofs.lemmas.List.Elements.{filter-append}
-use Rattle.std.proofs.lemmas.List.Sums.{count_by-le-length}
-use Rattle.kpn_net.specs.declared.wait.Wait.{Wait}
-use Rattle.kpn_net.specs.declared.wait.Wait.TheVariants.{Nobody}
-use Rattle.kpn_net.specs.Waits.{wait_at}
-use Rattle.kpn_net.proofs.Cycles.{Contains-first, Contains-later, Contains-cases, Contains-none}
-use Rattle.kpn_history.specs.declared.event.How.{How}
-use Rattle.kpn_history.specs.declared.state.State.{State}
+use Rattle.kpn_book.proofs.Common.{cases_eq, cases_lt, both_ways, false≢true, length-set, get_or-set_same, get_or-set_other, get_or_past, set-set, set-get_or, filter-append, count_by-le-length, Wait, Nobody, wait_at, Contains-first, Contains-later, Contains-cases, Contains-none, How, State, is_ready, is_held, end_in, wait_in, Schedule, state_at, IsSchedule, first_held, made_ready, with_state, Book, IsHeld, held_count, IsStateBy, IsKept, all_held, region_held, turned_if, put_back_if, all_put_back, is_woken, woken_if, all_woken}
 use Rattle.kpn_history.specs.declared.state.State.TheVariants.{Ready, Held, WaitsEmpty, WaitsFull, Ended}
-use Rattle.kpn_history.specs.Views.{is_ready, is_held}
-use Rattle.kpn_machine.specs.Machine.{end_in, wait_in}
-use Rattle.kpn_book.specs.Schedule.{Schedule, state_at, IsSchedule, first_held, made_ready, with_state}
-use Rattle.kpn_book.specs.Book.{Book, IsHeld, held_count}
-use Rattle.kpn_book.specs.Kept.{IsStateBy, IsKept}
-use Rattle.kpn_book.specs.Regions.{all_held, region_held, turned_if, put_back_if, all_put_back, is_woken, woken_if, all_woken}
 use Rattle.kpn_book.proofs.Queueing.{first_is_ready}
 use Rattle.kpn_book.proofs.Committing.{kept_put_back}
 

@@ -1,15 +1,5 @@
 -- A process that is put back is not held, and no other is that was not.
-use Rattle.std.proofs.Common.{◌≡◌, ℕ, ◌<◌, false, cond, List, length, set, get_or, count_by, refl, ap, ◌∙◌, subst, inl, inr, arith}
-use Rattle.std.proofs.lemmas.Bool.{cases_eq}
-use Rattle.std.proofs.lemmas.List.{length-set, get_or-set_same, get_or-set_other, get_or_default}
-use Rattle.std.proofs.lemmas.List.Sums.{sum_by-le}
-use Rattle.kpn_history.specs.declared.state.State.{State}
-use Rattle.kpn_history.specs.declared.state.State.TheVariants.{Ready, Held}
-use Rattle.kpn_history.specs.Views.{is_held}
-use Rattle.kpn_book.specs.Schedule.{state_at}
-use Rattle.kpn_book.specs.Book.{Book, IsHeld, held_count, put_back}
-use Rattle.kpn_book.specs.Kept.{IsBook}
-use Rattle.kpn_book.specs.Releasing.{Releases, IsNoneHeldBelow}
+use Rattle.kpn_book.proofs.Common.{◌≡◌, ℕ, ◌<◌, false, cond, List, length, set, get_or, count_by, refl, ap, ◌∙◌, subst, inl, inr, arith, cases_eq, length-set, get_or-set_same, get_or-set_other, get_or_default, sum_by-le, State, Ready, Held, is_held, state_at, Book, IsHeld, held_count, put_back, IsBook, Releases, IsNoneHeldBelow}
 
 -- ---- one process
 

@@ -1,22 +1,9 @@
 -- What a book keeps, it keeps through all calls.
-use Rattle.std.proofs.Common.{◌≡◌, ℕ, ◌<◌, Bool, true, false, List, [], ◌∷◌, length, Option, Some, None, sym, ap, ◌∙◌, subst, inl, inr}
-use Rattle.kpn_step.specs.Stops.{Advanced}
-use Rattle.kpn_step.specs.declared.stop.Stop.{Stop}
-use Rattle.kpn_history.specs.declared.event.Event.{Event}
+use Rattle.kpn_book.proofs.Common.{◌≡◌, ℕ, ◌<◌, Bool, true, false, List, [], ◌∷◌, length, Option, Some, None, sym, ap, ◌∙◌, subst, inl, inr, Advanced, Stop, Event, Batch, stop_in, Done, Book, IsClaimed, standing_at, put_back, with_one_commit, Appends, AppendsAll, Happens, AllHappen, ready_if_paused, HandlesStop, Commits, StepsNext, IsSameBook, ClaimsRegion, CommitsRegion, with_batch, Remembers, RemembersAsMuch}
 use Rattle.kpn_history.specs.Keeping.{keeps_items}
-use Rattle.kpn_region.specs.Batch.{Batch, stop_in}
-use Rattle.kpn_book.specs.declared.answers.Done.{Done}
 use Rattle.kpn_book.specs.declared.answers.Done.TheVariants as done
-use Rattle.kpn_book.specs.Book.{Book, IsClaimed, standing_at, put_back, with_one_commit}
-use Rattle.kpn_book.specs.Appending.{Appends, AppendsAll, Happens, AllHappen}
-use Rattle.kpn_book.specs.Commits.{ready_if_paused, HandlesStop, Commits}
-use Rattle.kpn_book.specs.Stepping.{StepsNext}
 use Rattle.kpn_book.specs.InARow.{StepsInRow, no_step, one_step_more, ends_row, RunsInRow, RunsInVain}
 use Rattle.kpn_book.specs.Regions.{SettleBelow, none_yet, one_more, Settles, settles_if, goes_to, commits_or_not, has_part}
-use Rattle.kpn_book.specs.RegionClaims.{IsSameBook, ClaimsRegion}
-use Rattle.kpn_book.specs.RegionCalls.{CommitsRegion}
-use Rattle.kpn_book.specs.BatchCommits.{with_batch}
-use Rattle.kpn_book.specs.Remembering.{Remembers, RemembersAsMuch}
 
 pub same_much : (before after : Book) → after ≡ before → RemembersAsMuch before after
 same_much before after same keeping is = subst (λ b. Remembers keeping b) (sym same) is

@@ -1,31 +1,8 @@
 -- What the report of a run on one thread has made, if its limit of commits allows as many rounds as another history
 -- takes.
-use Rattle.std.proofs.Common.{◌≡◌, ◌≢◌, ℕ, ◌+◌, ◌*◌, ◌<◌, ◌≤◌, max, true, ℤ, List, length, Option, Some, None, refl, sym, ap, ◌∙◌, subst, inl, inr, arith, length-append}
+use Rattle.kpn_book.proofs.Common.{◌≡◌, ◌≢◌, ℕ, ◌+◌, ◌*◌, ◌<◌, ◌≤◌, max, true, ℤ, List, length, Option, Some, None, refl, sym, ap, ◌∙◌, subst, inl, inr, arith, length-append, IsPrefix, IsPrefix-same, IsPrefix-trans, length_of_prefix, rest_of_prefix, same_from_prefix, prefixes_of_one, Tables, channel_at, is_sink, instance_at, program_of, IsNetwork, Family, given_by, start_frame, Event, read_in, written_on, read_on, IsRunFrom, HasMadeNoMore, HasMade, IsCaughtUp, all_read, reads_begin_writes, made_no_more, run_begun, made_later, no_more_if_made, frame_in, Book, Limits, Enough, Stopped, Report, IsEnough, IsOutcome, events_of, AreSupplied, IsReport, TakesRounds}
 use Rattle.std.proofs.lemmas.List.Concat.{flat_map-append}
-use Rattle.kpn_lang.specs.Prefix.{IsPrefix}
-use Rattle.kpn_lang.proofs.Prefixes.{IsPrefix-same, IsPrefix-trans, length_of_prefix, rest_of_prefix, same_from_prefix, prefixes_of_one}
-use Rattle.kpn_net.specs.Tables.{Tables, channel_at, is_sink, instance_at, program_of}
-use Rattle.kpn_net.specs.Faults.{IsNetwork}
-use Rattle.kpn_net.specs.Process.{Family}
-use Rattle.kpn_net.specs.Iteration.{given_by}
-use Rattle.kpn_step.specs.Frame.{start_frame}
-use Rattle.kpn_history.specs.declared.event.Event.{Event}
-use Rattle.kpn_history.specs.Channels.{read_in, written_on, read_on}
-use Rattle.kpn_history.specs.OneEnd.{IsRunFrom, HasMadeNoMore}
-use Rattle.kpn_history.specs.Progress.{HasMade, IsCaughtUp}
-use Rattle.kpn_history.proofs.Above.{all_read}
-use Rattle.kpn_history.proofs.Journals.{reads_begin_writes}
-use Rattle.kpn_history.proofs.OneEnd.{made_no_more}
-use Rattle.kpn_history.proofs.Progress.{run_begun, made_later, no_more_if_made}
-use Rattle.kpn_machine.specs.Machine.{frame_in}
-use Rattle.kpn_book.specs.Book.{Book}
-use Rattle.kpn_book.specs.declared.outcome.Limits.{Limits}
-use Rattle.kpn_book.specs.declared.outcome.Outcome.TheVariants.{Enough, Stopped}
-use Rattle.kpn_book.specs.declared.report.Report.{Report}
-use Rattle.kpn_book.specs.Outcomes.{IsEnough, IsOutcome}
-use Rattle.kpn_book.specs.Reports.{events_of, AreSupplied, IsReport}
 use Rattle.kpn_book.specs.RunHere.{supplies, IsBeforeTurn, Turns, no_turn, one_turn_more, IsNewBook, IsReportHere}
-use Rattle.kpn_book.specs.Progress.{TakesRounds}
 use Rattle.kpn_book.proofs.Completing.{fed_from}
 use Rattle.kpn_book.proofs.FinalReports.{final_run, reads_as_much, enough_too, lacking, Kind, is_verdict, is_enough, is_stopped, kind_of}
 use Rattle.kpn_book.proofs.Told.{turns_to_limit}

@@ -1,22 +1,8 @@
 -- An item that is reserved on a channel changes nothing of what an event does.
-use Rattle.std.proofs.Common.{◌≡◌, ℕ, ◌+◌, ◌<◌, ◌||◌, ℤ, IsTrue, List, [], ◌∷◌, ◌++◌, length, refl, sym, ap, ◌∙◌, subst, inl, inr}
-use Rattle.std.proofs.lemmas.Bool.{cases_eq}
-use Rattle.std.proofs.lemmas.List.{get_or-set_same, get_or-set_other}
-use Rattle.kpn_net.specs.Tables.{Tables}
-use Rattle.kpn_step.specs.declared.stop.Stop.{Stop}
+use Rattle.kpn_book.proofs.Common.{◌≡◌, ℕ, ◌+◌, ◌<◌, ◌||◌, ℤ, IsTrue, List, [], ◌∷◌, ◌++◌, length, refl, sym, ap, ◌∙◌, subst, inl, inr, cases_eq, get_or-set_same, get_or-set_other, Tables, Stop, ChannelState, with_room, is_channel_full, next_item, unread, most_after, Event, written_in, read_in, channel_in, IsChannelAfter, Done, Book, with_one_commit, Appends, AppendsAll, HasToWait, IsAnswer, ready_if_paused, HandlesStop, reserved_on}
 use Rattle.kpn_step.specs.declared.stop.Stop.TheVariants as stop
-use Rattle.kpn_chan.specs.Channel.{ChannelState, with_room, is_channel_full, next_item, unread, most_after}
-use Rattle.kpn_history.specs.declared.event.Event.{Event}
-use Rattle.kpn_history.specs.Channels.{written_in, read_in}
 use Rattle.kpn_history.specs.AfterEvent.{capacity_then, takes_reader}
-use Rattle.kpn_machine.specs.Machine.{channel_in}
-use Rattle.kpn_machine.specs.Changes.{IsChannelAfter}
-use Rattle.kpn_book.specs.declared.answers.Done.{Done}
 use Rattle.kpn_book.specs.declared.answers.Done.TheVariants as done
-use Rattle.kpn_book.specs.Book.{Book, with_one_commit}
-use Rattle.kpn_book.specs.Appending.{Appends, AppendsAll}
-use Rattle.kpn_book.specs.Commits.{HasToWait, IsAnswer, ready_if_paused, HandlesStop}
-use Rattle.kpn_book.specs.Open.{reserved_on}
 
 channel_before : (t : Tables) (e : Event) (d : ℕ) (x y after : ChannelState) → x.journal ≡ y.journal → x.read ≡ y.read
     → x.capacity ≡ y.capacity → x.is_retired ≡ y.is_retired → (IsTrue y.is_reserved → IsTrue x.is_reserved)

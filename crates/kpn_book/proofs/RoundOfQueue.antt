@@ -2,36 +2,12 @@
 -- Until then it stays where it is in its program.
 use Rattle.std.specs.Prelude.{Contains}
 use Rattle.std.proofs.Common.{◌≡◌, ◌≢◌, nat_eq, ℕ, zero, suc, ◌+◌, ◌<◌, ◌⊎◌, max, true, eq-eqb, List, [], ◌∷◌, ◌++◌, length, None, refl, sym, ap, ◌∙◌, subst, inl, inr, arith, append_assoc}
-use Rattle.std.proofs.lemmas.Bool.{cases_eq, both_ways, false_from_ne_true}
-use Rattle.std.proofs.lemmas.List.{get_or-set_same, get_or-set_other}
-use Rattle.kpn_lang.specs.Prefix.{IsPrefix}
-use Rattle.kpn_lang.proofs.Prefixes.{IsPrefix-refl, IsPrefix-trans, IsPrefix-append}
-use Rattle.kpn_net.specs.Tables.{program_of}
-use Rattle.kpn_net.proofs.Cycles.{Contains-none, Contains-cases}
-use Rattle.kpn_step.specs.declared.stop.Stop.{Stop}
+use Rattle.kpn_book.proofs.Common.{cases_eq, both_ways, false_from_ne_true, get_or-set_same, get_or-set_other, IsPrefix, IsPrefix-refl, IsPrefix-trans, IsPrefix-append, program_of, Contains-none, Contains-cases, Stop, Frame, Statement, Goes, Steps, step_of, IsBetween, StandsAt, stop_at, Steps-append, Event, How, growth_after, is_of, is_of_process, one_process, stop_of, frame_in, no_frame, Done, Book, standing_at, with_one_commit, AppendsAll, AllHappen, IsAnswer, ready_if_paused, HasToWait, Limits, IsOutcome}
 use Rattle.kpn_step.specs.declared.stop.Stop.TheVariants as stop
-use Rattle.kpn_step.specs.Frame.{Frame}
-use Rattle.kpn_lang.specs.Syntax.{Statement}
-use Rattle.kpn_step.specs.Step.{Goes, Steps, step_of}
-use Rattle.kpn_step.specs.Stops.{IsBetween, StandsAt, stop_at}
-use Rattle.kpn_step.proofs.StepCases.{Steps-append}
-use Rattle.kpn_history.specs.declared.event.Event.{Event}
 use Rattle.kpn_history.specs.declared.event.Event.TheVariants as event
-use Rattle.kpn_history.specs.declared.event.How.{How}
 use Rattle.kpn_history.specs.declared.event.How.TheVariants as how
-use Rattle.kpn_history.specs.Legal.{growth_after}
-use Rattle.kpn_history.specs.Talks.{is_of, is_of_process}
 use Rattle.kpn_history.proofs.AfterEvent.{of_process}
-use Rattle.kpn_history.proofs.Progress.{one_process}
-use Rattle.kpn_machine.specs.Due.{stop_of}
-use Rattle.kpn_machine.specs.Machine.{frame_in, no_frame}
-use Rattle.kpn_book.specs.declared.answers.Done.{Done}
 use Rattle.kpn_book.specs.declared.answers.Done.TheVariants as done
-use Rattle.kpn_book.specs.Book.{Book, standing_at, with_one_commit}
-use Rattle.kpn_book.specs.Appending.{AppendsAll, AllHappen}
-use Rattle.kpn_book.specs.Commits.{IsAnswer, ready_if_paused, HasToWait}
-use Rattle.kpn_book.specs.declared.outcome.Limits.{Limits}
-use Rattle.kpn_book.specs.Outcomes.{IsOutcome}
 use Rattle.kpn_book.specs.RunHere.{takes_from_sinks, IsTurn, IsBeforeTurn, Turns, no_turn, one_turn_more}
 use Rattle.kpn_book.proofs.Appended.{base_tables, base_history}
 use Rattle.kpn_book.proofs.Happening.{happens_tables, happens_prefix}

@@ -1,20 +1,8 @@
 -- Each run on one thread takes some number of rounds: at each of its events the process stands where steps have led
 -- from what it said last.
 use Rattle.std.proofs.Common.{◌≡◌, ◌≢◌, ℕ, ◌+◌, ◌*◌, ◌≤◌, ◌⊎◌, max, ℤ, List, [], ◌∷◌, ◌++◌, sym, ◌∙◌, subst, inl, inr, arith, append_assoc, append-nil, mul-le-mul_right}
-use Rattle.kpn_net.specs.Tables.{Tables, program_of}
-use Rattle.kpn_net.specs.Iteration.{given_by}
+use Rattle.kpn_book.proofs.Common.{Tables, program_of, given_by, Step, Stops, Faults, Goes, step_of, Advanced, Steps-append, Event, talk_of, frame_in, Book, standing_at, AllHappen, Limits, Report, events_of}
 use Rattle.kpn_step.specs.declared.stop.Stop.TheVariants as stop
-use Rattle.kpn_step.specs.Step.{Step, Stops, Faults, Goes, step_of}
-use Rattle.kpn_step.specs.Stops.{Advanced}
-use Rattle.kpn_step.proofs.StepCases.{Steps-append}
-use Rattle.kpn_history.specs.declared.event.Event.{Event}
-use Rattle.kpn_history.specs.Talks.{talk_of}
-use Rattle.kpn_machine.specs.Machine.{frame_in}
-use Rattle.kpn_book.specs.Book.{Book, standing_at}
-use Rattle.kpn_book.specs.Appending.{AllHappen}
-use Rattle.kpn_book.specs.declared.outcome.Limits.{Limits}
-use Rattle.kpn_book.specs.declared.report.Report.{Report}
-use Rattle.kpn_book.specs.Reports.{events_of}
 use Rattle.kpn_book.specs.RunHere.{supplies, takes_from_sinks, IsTurn, IsBeforeTurn, Turns, no_turn, one_turn_more, IsReportHere}
 use Rattle.kpn_book.specs.Progress.{tried_at, PausesAfter, TakesRounds, no_event, of_process, of_nobody}
 use Rattle.kpn_book.proofs.Happening.{happens_history}

@@ -1,24 +1,8 @@
 -- What the counts of the schedule show: if some process has not stopped, the run is not settled, and if nobody waits on
 -- a full channel, no growth is owed.
-use Rattle.std.proofs.Common.{◌≡◌, ℕ, zero, suc, ◌<◌, cond, List, [], ◌∷◌, length, get_or, count_by, Some, sym, ◌∙◌, arith}
+use Rattle.kpn_book.proofs.Common.{◌≡◌, ℕ, zero, suc, ◌<◌, cond, List, [], ◌∷◌, length, get_or, count_by, Some, sym, ◌∙◌, arith, sum_by-cons, Wait, Nobody, Empty, Full, IsNetwork, full_channel, full_channels, full_at, Counts, IsSettled, AreCounts, waits_of, stopped_state, is_full_wait, AreAllStopped, state_at, Book, IsInStep, GrowsIfOwed}
 use Rattle.std.specs.List.{Contains, range_with_len}
-use Rattle.std.proofs.lemmas.List.Sums.{sum_by-cons}
-use Rattle.kpn_net.specs.declared.wait.Wait.{Wait}
-use Rattle.kpn_net.specs.declared.wait.Wait.TheVariants.{Nobody, Empty, Full}
-use Rattle.kpn_net.specs.Faults.{IsNetwork}
-use Rattle.kpn_net.specs.Waits.{full_channel, full_channels}
-use Rattle.kpn_net.proofs.Cycles.{full_at}
-use Rattle.kpn_history.specs.declared.state.Counts.{Counts}
-use Rattle.kpn_history.specs.Ends.{IsSettled}
-use Rattle.kpn_history.specs.Views.{AreCounts}
-use Rattle.kpn_history.specs.Waiting.{waits_of}
-use Rattle.kpn_history.proofs.States.{stopped_state}
-use Rattle.kpn_machine.specs.Machine.{is_full_wait}
-use Rattle.kpn_book.specs.Schedule.{AreAllStopped, state_at}
-use Rattle.kpn_book.specs.Book.{Book}
-use Rattle.kpn_book.specs.Kept.{IsInStep}
 use Rattle.kpn_book.specs.declared.answers.Done.TheVariants as done
-use Rattle.kpn_book.specs.Open.{GrowsIfOwed}
 use Rattle.kpn_book.proofs.Answering.{none_at_stop, blocked_then}
 use Rattle.kpn_book.proofs.Standing.{states_in_step, full_count}
 

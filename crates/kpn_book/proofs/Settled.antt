@@ -1,28 +1,10 @@
 -- What the commit of a region does to its book, all in all.
 use Rattle.std.proofs.Common.{◌≡◌, ℕ, ◌+◌, ◌<◌, ◌≤◌, Bool, true, false, ◌&&◌, List, [], ◌∷◌, ◌++◌, length, set, get_or, Option, Some, None, refl, sym, ap, ◌∙◌, subst, inl, inr, arith, append_assoc, append-nil}
-use Rattle.std.specs.List.{list_all, range_with_len}
-use Rattle.std.proofs.lemmas.Bool.{cases_eq, cases_lt, false≢true}
-use Rattle.std.proofs.lemmas.List.{length-set, get_or-set_same, get_or-set_other, get_or_past}
-use Rattle.kpn_net.specs.Tables.{Tables}
-use Rattle.kpn_step.specs.declared.stop.Stop.{Stop}
-use Rattle.kpn_history.specs.declared.event.Event.{Event}
+use Rattle.kpn_book.proofs.Common.{list_all, range_with_len, cases_eq, cases_lt, false≢true, length-set, get_or-set_same, get_or-set_other, get_or_past, Tables, Stop, Event, State, is_held, growth_after, is_in_region, Batch, stop_in, Done, Schedule, state_at, made_ready, Book, put_back, with_one_commit, IsBook, own_part, woken_by, all_made_ready, Appends, AppendsAll, IsGrowthOwed, HasToWait, IsAnswer, ready_if_paused, is_at_stop, CommitsAtStops, CommitsRegion, with_batch}
 use Rattle.kpn_history.specs.declared.event.Event.TheVariants as event
-use Rattle.kpn_history.specs.declared.state.State.{State}
 use Rattle.kpn_history.specs.declared.state.State.TheVariants.{Ready, WaitsEmpty, WaitsFull, Ended}
-use Rattle.kpn_history.specs.Views.{is_held}
-use Rattle.kpn_history.specs.Legal.{growth_after}
-use Rattle.kpn_region.specs.Local.{is_in_region}
-use Rattle.kpn_region.specs.Batch.{Batch, stop_in}
-use Rattle.kpn_book.specs.declared.answers.Done.{Done}
 use Rattle.kpn_book.specs.declared.answers.Done.TheVariants as done
-use Rattle.kpn_book.specs.Schedule.{Schedule, state_at, made_ready}
-use Rattle.kpn_book.specs.Book.{Book, put_back, with_one_commit}
-use Rattle.kpn_book.specs.Kept.{IsBook}
-use Rattle.kpn_book.specs.Appending.{own_part, woken_by, all_made_ready, Appends, AppendsAll, IsGrowthOwed}
-use Rattle.kpn_book.specs.Commits.{HasToWait, IsAnswer, ready_if_paused}
 use Rattle.kpn_book.specs.Regions.{commits_or_not, goes_to, has_part, settles_if, Settles, SettleBelow, none_yet, one_more}
-use Rattle.kpn_book.specs.RegionCalls.{is_at_stop, CommitsAtStops, CommitsRegion}
-use Rattle.kpn_book.specs.BatchCommits.{with_batch}
 use Rattle.kpn_book.proofs.Appended.{tables_stay, history_then, commits_stay}
 use Rattle.kpn_book.proofs.Regions.{and_left, and_right, length_woken}
 

@@ -1,23 +1,9 @@
 -- If the outside has nothing to do and no process is ready or held, the run is settled.
-use Rattle.std.proofs.Common.{◌≡◌, ℕ, ◌+◌, ◌<◌, ◌^◌, [], length, refl, sym, ap, ◌∙◌, subst, inl, inr, arith}
+use Rattle.kpn_book.proofs.Common.{◌≡◌, ℕ, ◌+◌, ◌<◌, ◌^◌, [], length, refl, sym, ap, ◌∙◌, subst, inl, inr, arith, Contains-none, State, unread_on, is_held, HasStopped, IsSettled, ended_by, unread_length, wait_in, end_in, IsEndOf, state_at, Book, held_count, IsBook, IsStateBy, ClaimsNobody, IsLeftToItself}
 use Rattle.std.specs.List.{Contains}
 use Rattle.std.proofs.lemmas.Bool.{both_ways, eq-eqb}
-use Rattle.kpn_net.proofs.Cycles.{Contains-none}
-use Rattle.kpn_history.specs.declared.state.State.{State}
 use Rattle.kpn_history.specs.declared.state.State.TheVariants.{Ready, Held, WaitsEmpty, WaitsFull, Ended}
-use Rattle.kpn_history.specs.Channels.{unread_on}
-use Rattle.kpn_history.specs.Views.{is_held}
-use Rattle.kpn_history.specs.Ends.{HasStopped, IsSettled}
-use Rattle.kpn_history.proofs.EndsOnce.{ended_by}
-use Rattle.kpn_history.proofs.OneMore.{unread_length}
-use Rattle.kpn_machine.specs.Machine.{wait_in, end_in}
-use Rattle.kpn_machine.specs.Run.{IsEndOf}
-use Rattle.kpn_book.specs.Schedule.{state_at}
 use Rattle.kpn_book.proofs.Tallies.{not_counted}
-use Rattle.kpn_book.specs.Book.{Book, held_count}
-use Rattle.kpn_book.specs.Kept.{IsBook, IsStateBy}
-use Rattle.kpn_book.specs.Stepping.{ClaimsNobody}
-use Rattle.kpn_book.specs.Running.{IsLeftToItself}
 
 module _ (b : Book) (book : IsBook b) where
   -- by how it ended and what it waits for

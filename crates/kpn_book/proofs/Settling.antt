@@ -1,27 +1,8 @@
 -- What becomes of the processes of a batch: each is committed where it stands, or put back.
 use Rattle.std.proofs.Common.{◌≡◌, ℕ, ◌+◌, ◌<◌, ◌≤◌, Bool, true, false, ◌&&◌, eqb, eq-eqb, List, [], ◌∷◌, ◌++◌, length, Option, Some, None, refl, sym, ap, ◌∙◌, subst, inl, inr, arith}
-use Rattle.std.proofs.lemmas.Bool.{false≢true, false_from_ne_true, eqb-true}
-use Rattle.kpn_net.specs.Tables.{Tables, program_of}
-use Rattle.kpn_step.specs.Frame.{Frame}
-use Rattle.kpn_step.specs.Stops.{StandsAt, IsAtPort}
-use Rattle.kpn_step.specs.declared.stop.Stop.{Stop}
-use Rattle.kpn_history.specs.declared.event.Event.{Event}
+use Rattle.kpn_book.proofs.Common.{false≢true, false_from_ne_true, eqb-true, Tables, program_of, Frame, StandsAt, IsAtPort, Stop, Event, is_of, is_held, frame_in, IsFrameAfter, Stands, is_in_region, frame_at, Batch, IsBatch, stop_in, state_at, Done, Book, IsHeld, with_one_commit, AppendsAll, IsGrowthOwed, HasToWait, IsAnswer, HandlesStop, ready_if_paused, IsKept, is_but_reserved}
 use Rattle.kpn_history.specs.declared.event.Event.TheVariants as event
-use Rattle.kpn_history.specs.Talks.{is_of}
-use Rattle.kpn_history.specs.Views.{is_held}
-use Rattle.kpn_machine.specs.Machine.{frame_in}
-use Rattle.kpn_machine.specs.Changes.{IsFrameAfter}
-use Rattle.kpn_machine.specs.Due.{Stands}
-use Rattle.kpn_region.specs.Local.{is_in_region, frame_at}
-use Rattle.kpn_region.specs.Batch.{Batch, IsBatch, stop_in}
-use Rattle.kpn_book.specs.Schedule.{state_at}
-use Rattle.kpn_book.specs.declared.answers.Done.{Done}
 use Rattle.kpn_book.specs.declared.answers.Done.TheVariants as done
-use Rattle.kpn_book.specs.Book.{Book, IsHeld, with_one_commit}
-use Rattle.kpn_book.specs.Appending.{AppendsAll, IsGrowthOwed}
-use Rattle.kpn_book.specs.Commits.{HasToWait, IsAnswer, HandlesStop, ready_if_paused}
-use Rattle.kpn_book.specs.Kept.{IsKept}
-use Rattle.kpn_book.specs.Open.{is_but_reserved}
 use Rattle.kpn_book.specs.Regions.{commits_or_not, goes_to, has_part, settles_if, Settles, SettleBelow, none_yet, one_more}
 use Rattle.kpn_book.proofs.Answering.{IsAtStop}
 use Rattle.kpn_book.proofs.Appended.{tables_stay, base_tables}

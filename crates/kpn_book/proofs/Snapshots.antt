@@ -1,29 +1,10 @@
 -- What a view that agrees with a legal history shows of its journals, without the history.
-use Rattle.std.proofs.Common.{◌≡◌, ◌⊎◌, ℕ, ℤ, ◌<◌, true, cond, List, [], length, get_or, sym, ap, ◌∙◌, subst, inl, inr, arith}
-use Rattle.std.proofs.lemmas.List.FromFn.{get_or-map-range_with_len}
-use Rattle.std.proofs.lemmas.List.Elements.{All-get_or}
+use Rattle.kpn_book.proofs.Common.{◌≡◌, ◌⊎◌, ℕ, ℤ, ◌<◌, true, cond, List, [], length, get_or, sym, ap, ◌∙◌, subst, inl, inr, arith, get_or-map-range_with_len, All-get_or, IsPrefix, Tables, channel_at, is_source, IsNetwork, IsBelowLeast, IsLeast, AgreeOnSources, Event, State, View, Legal, has_ended, IsQuiet, WaitsOnEmpty, Agrees, IsStateOf, fed-source, ended_by, below_least, least_if_quiet_given, channel_in, Book, IsBook}
 use Rattle.std.specs.List.{All}
-use Rattle.kpn_lang.specs.Prefix.{IsPrefix}
-use Rattle.kpn_net.specs.Tables.{Tables, channel_at, is_source}
-use Rattle.kpn_net.specs.Faults.{IsNetwork}
-use Rattle.kpn_net.specs.Iteration.{IsBelowLeast, IsLeast, AgreeOnSources}
 use Rattle.kpn_net.proofs.Monotone.{IsPrefixOnSources-agree}
 use Rattle.kpn_net.proofs.Networks.{source_there}
-use Rattle.kpn_history.specs.declared.event.Event.{Event}
-use Rattle.kpn_history.specs.declared.state.State.{State}
 use Rattle.kpn_history.specs.declared.state.State.TheVariants.{Ready, Held, WaitsEmpty, WaitsFull, Ended}
-use Rattle.kpn_history.specs.declared.state.View.{View}
 use Rattle.kpn_history.specs.Channels.{written_on, fed}
-use Rattle.kpn_history.specs.Legal.{Legal}
-use Rattle.kpn_history.specs.Talks.{has_ended}
-use Rattle.kpn_history.specs.Ends.{IsQuiet, WaitsOnEmpty}
-use Rattle.kpn_history.specs.Views.{Agrees, IsStateOf}
-use Rattle.kpn_history.proofs.Below.{fed-source}
-use Rattle.kpn_history.proofs.EndsOnce.{ended_by}
-use Rattle.kpn_history.proofs.Kahn.{below_least, least_if_quiet_given}
-use Rattle.kpn_machine.specs.Machine.{channel_in}
-use Rattle.kpn_book.specs.Book.{Book}
-use Rattle.kpn_book.specs.Kept.{IsBook}
 use Rattle.kpn_book.specs.Snapshot.{ShowsARun, ShowsJournals, shown_on, shown_fed, IsBelowKahn, IsAtRest, IsKahnAtRest}
 
 -- the journal that is shown is what was written

@@ -1,30 +1,7 @@
 -- What holds of every book.
-use Rattle.std.proofs.Common.{◌≡◌, ℕ, suc, ◌+◌, ◌<◌, Bool, cond, List, [], ◌∷◌, ◌++◌, length, get_or, count_by, Option, Some, refl, sym, ap, ◌∙◌, subst, arith}
-use Rattle.std.proofs.lemmas.List.Sums.{sum_by-cons}
-use Rattle.kpn_lang.specs.Prefix.{IsPrefix}
-use Rattle.kpn_net.specs.declared.wait.Wait.{Wait}
-use Rattle.kpn_net.specs.declared.wait.Wait.TheVariants.{Nobody}
-use Rattle.kpn_net.specs.Tables.{larger_capacity}
-use Rattle.kpn_net.specs.Faults.{IsNetwork}
-use Rattle.kpn_history.specs.declared.event.How.{How}
-use Rattle.kpn_history.specs.declared.event.Event.{Event}
+use Rattle.kpn_book.proofs.Common.{◌≡◌, ℕ, suc, ◌+◌, ◌<◌, Bool, cond, List, [], ◌∷◌, ◌++◌, length, get_or, count_by, Option, Some, refl, sym, ap, ◌∙◌, subst, arith, sum_by-cons, IsPrefix, Wait, Nobody, larger_capacity, IsNetwork, How, Event, Counts, State, capacity_or_zero, Legal, MayFollow, OwesGrowth, wait_of, waits_of, IsStateOf, AreCounts, waits_empty, waits_full, Legal-prefix, Legal-exactly, end_in, wait_in, is_empty_wait, is_full_wait, IsEndOf, same_waits, ended_waits_for_nobody, state_at, Book, IsStateBy, IsInStep, IsBook}
 use Rattle.kpn_history.specs.declared.event.Event.TheVariants as event
-use Rattle.kpn_history.specs.declared.state.Counts.{Counts}
-use Rattle.kpn_history.specs.declared.state.State.{State}
 use Rattle.kpn_history.specs.declared.state.State.TheVariants.{Ready, Held, WaitsEmpty, WaitsFull, Ended}
-use Rattle.kpn_history.specs.Channels.{capacity_or_zero}
-use Rattle.kpn_history.specs.Legal.{Legal, MayFollow, OwesGrowth}
-use Rattle.kpn_history.specs.Waiting.{wait_of, waits_of}
-use Rattle.kpn_history.specs.Views.{IsStateOf, AreCounts, waits_empty, waits_full}
-use Rattle.kpn_history.proofs.Legality.{Legal-prefix}
-use Rattle.kpn_history.proofs.OneMore.{Legal-exactly}
-use Rattle.kpn_machine.specs.Machine.{end_in, wait_in, is_empty_wait, is_full_wait}
-use Rattle.kpn_machine.specs.Run.{IsEndOf}
-use Rattle.kpn_machine.proofs.Growing.{same_waits}
-use Rattle.kpn_machine.proofs.Moments.{ended_waits_for_nobody}
-use Rattle.kpn_book.specs.Schedule.{state_at}
-use Rattle.kpn_book.specs.Book.{Book}
-use Rattle.kpn_book.specs.Kept.{IsStateBy, IsInStep, IsBook}
 
 -- ---- states
 

@@ -1,20 +1,7 @@
 -- The book at the start.
-use Rattle.std.proofs.Common.{◌≡◌, ℕ, [], length, count_by, Option, Some, None, refl, sym, ap, ◌∙◌, subst, arith}
-use Rattle.std.proofs.lemmas.List.{length-replicate, get_or-replicate}
-use Rattle.kpn_net.proofs.Cycles.{Contains-none}
+use Rattle.kpn_book.proofs.Common.{◌≡◌, ℕ, [], length, count_by, Option, Some, None, refl, sym, ap, ◌∙◌, subst, arith, length-replicate, get_or-replicate, Contains-none, How, Ready, is_held, process_events, OwesNothing, none_owed_at_first, end_in, wait_in, IsEndOf, IsRun, all_ready, state_at, Book, IsStateBy, IsKept}
 use Rattle.kpn_history.specs.declared.event.Event.TheVariants as event
-use Rattle.kpn_history.specs.declared.event.How.{How}
-use Rattle.kpn_history.specs.declared.state.State.TheVariants.{Ready}
-use Rattle.kpn_history.specs.Views.{is_held}
-use Rattle.kpn_history.specs.Talks.{process_events}
-use Rattle.kpn_history.specs.Stops.{OwesNothing}
-use Rattle.kpn_history.proofs.Growth.{none_owed_at_first}
-use Rattle.kpn_machine.specs.Machine.{end_in, wait_in}
-use Rattle.kpn_machine.specs.Run.{IsEndOf, IsRun}
-use Rattle.kpn_book.specs.Schedule.{all_ready, state_at}
 use Rattle.kpn_book.proofs.Tallies.{AreCounts-ready}
-use Rattle.kpn_book.specs.Book.{Book}
-use Rattle.kpn_book.specs.Kept.{IsStateBy, IsKept}
 
 no_end : (p : ℕ) (end : Option How) → IsEndOf [] p end → end ≡ None
 no_end p None is = refl

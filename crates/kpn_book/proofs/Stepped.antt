@@ -1,39 +1,11 @@
 -- What a step of a process does to the sinks, and what a take does then.
-use Rattle.std.proofs.Common.{◌≡◌, ◌↔◌, ℕ, ◌+◌, ◌<◌, ◌≤◌, max, Bool, true, false, cond, IsTrue, ℤ, List, [], ◌∷◌, ◌++◌, length, drop, slice_get, Option, Some, None, refl, sym, ap, ◌∙◌, subst, inl, inr, arith, length-append, length-drop}
-use Rattle.std.proofs.lemmas.Bool.{cases_eq, both_ways, false≢true}
-use Rattle.std.specs.List.{list_any}
-use Rattle.std.proofs.lemmas.List.Folds.{list_any-append}
-use Rattle.kpn_lang.specs.Prefix.{IsPrefix}
-use Rattle.kpn_lang.proofs.Prefixes.{IsPrefix-append, IsPrefix-trans, IsPrefix-refl}
-use Rattle.kpn_net.specs.Tables.{Tables, channel_at, is_source, is_sink}
-use Rattle.kpn_net.specs.Faults.{IsNetwork}
-use Rattle.kpn_history.specs.declared.event.Event.{Event}
+use Rattle.kpn_book.proofs.Common.{◌≡◌, ◌↔◌, ℕ, ◌+◌, ◌<◌, ◌≤◌, max, Bool, true, false, cond, IsTrue, ℤ, List, [], ◌∷◌, ◌++◌, length, drop, slice_get, Option, Some, None, refl, sym, ap, ◌∙◌, subst, inl, inr, arith, length-append, length-drop, cases_eq, both_ways, false≢true, list_any, list_any-append, IsPrefix, IsPrefix-append, IsPrefix-trans, IsPrefix-refl, Tables, channel_at, is_source, is_sink, IsNetwork, Event, written_in, read_in, written_on, read_on, unread_on, is_leave_of, is_left, Legal, growth_after, IsOwn-last, written_on-push, written_on-same, read_on-push, read_on-same, item_here, unread_length, channel_in, Stop, unread, Done, Book, held_count, standing_at, IsBook, IsGrowthOwed, AllHappen, HasToWait, IsAnswer, Takes, takes_item, ClaimsNobody, IsStep, StepsNext, Limits, IsEnough, IsLeftToItself, IsFrontStepped, IsLater, IsCommitted, HasPut, HasPutOn, KeepsSinks, sinks_after, has_put, ReadsOneMore, IsStepped, takes_of, takes_from_sinks, RemembersAsMuch}
 use Rattle.kpn_history.specs.declared.event.Event.TheVariants as event
-use Rattle.kpn_history.specs.Channels.{written_in, read_in, written_on, read_on, unread_on, is_leave_of, is_left}
-use Rattle.kpn_history.specs.Legal.{Legal, growth_after}
-use Rattle.kpn_history.proofs.Ownership.{IsOwn-last}
 use Rattle.kpn_history.proofs.Journals.{no_sink, none_elsewhere}
-use Rattle.kpn_history.proofs.Events.{written_on-push, written_on-same, read_on-push, read_on-same}
-use Rattle.kpn_history.proofs.OneMore.{item_here, unread_length}
-use Rattle.kpn_machine.specs.Machine.{channel_in}
-use Rattle.kpn_step.specs.declared.stop.Stop.{Stop}
-use Rattle.kpn_chan.specs.Channel.{unread}
-use Rattle.kpn_book.specs.declared.answers.Done.{Done}
 use Rattle.kpn_book.specs.declared.answers.Done.TheVariants as done
-use Rattle.kpn_book.specs.Book.{Book, held_count, standing_at}
-use Rattle.kpn_book.specs.Kept.{IsBook}
-use Rattle.kpn_book.specs.Appending.{IsGrowthOwed, AllHappen}
-use Rattle.kpn_book.specs.Commits.{HasToWait, IsAnswer}
-use Rattle.kpn_book.specs.Refusals.{Takes, takes_item}
-use Rattle.kpn_book.specs.Stepping.{ClaimsNobody, IsStep, StepsNext}
 use Rattle.kpn_book.proofs.Appended.{commit_tables, commit_history, commit_commits}
-use Rattle.kpn_book.specs.declared.outcome.Limits.{Limits}
-use Rattle.kpn_book.specs.Outcomes.{IsEnough}
-use Rattle.kpn_book.specs.Running.{IsLeftToItself, IsFrontStepped, IsLater, IsCommitted, HasPut, HasPutOn, KeepsSinks, sinks_after, has_put, ReadsOneMore, IsStepped}
 use Rattle.kpn_book.proofs.Ends.{AddNothing, nothing_more, sink_there, closed_later}
-use Rattle.kpn_book.specs.RunHere.{takes_of, takes_from_sinks}
 use Rattle.kpn_book.proofs.Held.{held_after_step, held_after_take}
-use Rattle.kpn_book.specs.Remembering.{RemembersAsMuch}
 use Rattle.kpn_book.proofs.Remembered.{same_much, much-trans, happens_much, steps_much}
 use Rattle.kpn_book.proofs.Happening.{happens_left, happens_tables, happens_prefix, happens_commits, happens_written, happens_read, one}
 use Rattle.kpn_book.proofs.Turning.{nothing_lies, takes_nothing, takes_there, the_one, front_stepped}

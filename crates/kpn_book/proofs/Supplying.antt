@@ -1,24 +1,8 @@
 -- The sources are fed and closed, one after the other.
 use Rattle.std.proofs.Common.{◌≡◌, ℕ, ◌+◌, ◌<◌, Bool, true, false, ℤ, List, [], ◌∷◌, ◌++◌, length, map, count_by, refl, sym, ap, ◌∙◌, subst, inl, inr, arith, append_assoc}
-use Rattle.std.proofs.lemmas.Bool.{cases_eq, both_ways}
-use Rattle.kpn_net.specs.Tables.{Tables, channel_at, is_source, is_sink}
-use Rattle.kpn_net.specs.Process.{Family}
-use Rattle.kpn_history.specs.declared.event.Event.TheVariants.{Feed, Close}
-use Rattle.kpn_history.specs.Channels.{written_on, is_closed, is_close_of, is_left}
-use Rattle.kpn_history.specs.Views.{is_held}
-use Rattle.kpn_history.proofs.Events.{written_on-push, written_on-same}
-use Rattle.kpn_history.proofs.AfterEvent.{is_closed-next}
-use Rattle.kpn_history.proofs.Journals.{none_elsewhere}
-use Rattle.kpn_history.proofs.OneMore.{item_here}
-use Rattle.kpn_machine.specs.Machine.{closed_in}
-use Rattle.kpn_book.specs.Schedule.{all_ready}
+use Rattle.kpn_book.proofs.Common.{cases_eq, both_ways, Tables, channel_at, is_source, is_sink, Family, Feed, Close, written_on, is_closed, is_close_of, is_left, is_held, written_on-push, written_on-same, is_closed-next, none_elsewhere, item_here, closed_in, all_ready, Book, IsBook, Happens, AllHappen, Feeds, Closes, closes_by, IsSupplied, IsFedBelow, IsLeftToItself}
 use Rattle.kpn_book.proofs.Tallies.{AreCounts-ready}
-use Rattle.kpn_book.specs.Book.{Book}
-use Rattle.kpn_book.specs.Kept.{IsBook}
-use Rattle.kpn_book.specs.Appending.{Happens, AllHappen}
-use Rattle.kpn_book.specs.Refusals.{Feeds, Closes, closes_by}
 use Rattle.std.proofs.lemmas.Bool.{eq-eqb, or_right}
-use Rattle.kpn_book.specs.Running.{IsSupplied, IsFedBelow, IsLeftToItself}
 use Rattle.kpn_book.proofs.Committing.{source_there}
 use Rattle.kpn_book.proofs.Ends.{sink_is_no_source, closed_next}
 use Rattle.kpn_book.proofs.Happening.{happens_left, happens_tables, happens_commits, happens_written, happens_closed}

@@ -1,14 +1,7 @@
 -- The counts of a list of states, if one of them is replaced by another.
-use Rattle.std.proofs.Common.{◌≡◌, ◌↔◌, ℕ, ◌+◌, ◌<◌, ◌≤◌, Bool, true, false, not, cond, nat_eq, List, [], ◌∷◌, length, replicate, set, get_or, count_by, refl, sym, ap, ◌∙◌, arith}
+use Rattle.kpn_book.proofs.Common.{◌≡◌, ◌↔◌, ℕ, ◌+◌, ◌<◌, ◌≤◌, Bool, true, false, not, cond, nat_eq, List, [], ◌∷◌, length, replicate, set, get_or, count_by, refl, sym, ap, ◌∙◌, arith, get_or_default, sum_by-cons, sum_by-set, sum_by-le, get_or-le-sum_by, sum_by-replicate, State, Ready, Held, AreCounts, is_ready, is_held, waits_empty, waits_full, is_ended, AreAllStopped}
 use Rattle.std.proofs.lemmas.Bool.{not-false, eqb-true, eq-eqb}
-use Rattle.std.proofs.lemmas.List.{get_or_default}
-use Rattle.std.proofs.lemmas.List.Sums.{sum_by-cons, sum_by-set, sum_by-le, get_or-le-sum_by}
-use Rattle.std.proofs.lemmas.List.Folds.{sum_by-replicate}
-use Rattle.kpn_history.specs.declared.state.State.{State}
-use Rattle.kpn_history.specs.declared.state.State.TheVariants.{Ready, Held}
-use Rattle.kpn_history.specs.Views.{AreCounts, is_ready, is_held, waits_empty, waits_full, is_ended}
 use Rattle.kpn_book.specs.Counting.{goes, IsTally}
-use Rattle.kpn_book.specs.Schedule.{AreAllStopped}
 
 -- ---- one count
 

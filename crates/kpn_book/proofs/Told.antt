@@ -1,33 +1,6 @@
 -- The report of a run that was left to itself has what a report promises.
-use Rattle.std.proofs.Common.{◌≡◌, ℕ, ◌+◌, ◌<◌, ◌≤◌, max, Bool, ℤ, List, length, Some, sym, ap, ◌∙◌, subst, arith, [], take, map, get_or, true, false, count_by}
-use Rattle.std.proofs.lemmas.List.{take_all}
-use Rattle.std.proofs.lemmas.List.FromFn.{length-map-range_with_len, get_or-map-range_with_len}
-use Rattle.kpn_lang.proofs.Prefixes.{IsPrefix-same, length_of_prefix}
-use Rattle.kpn_net.specs.Tables.{Tables, channel_at, is_source}
-use Rattle.kpn_net.specs.Iteration.{given_by, IsPrefixOnSources, AgreeOnSources}
-use Rattle.kpn_net.proofs.RoundLemmas.{list_of}
-use Rattle.kpn_net.specs.Faults.{IsNetwork}
-use Rattle.kpn_history.specs.Channels.{written_on, read_on, is_closed, is_left}
-use Rattle.kpn_history.specs.Legal.{Legal}
-use Rattle.kpn_history.specs.Stops.{OwesNothing}
-use Rattle.kpn_history.specs.Talks.{process_events}
-use Rattle.kpn_history.specs.Views.{Agrees, is_held}
-use Rattle.kpn_history.specs.declared.event.Event.{Event}
-use Rattle.kpn_history.specs.declared.state.Verdict.{Verdict}
-use Rattle.kpn_history.specs.declared.state.View.{View}
-use Rattle.kpn_history.proofs.Journals.{reads_begin_writes}
-use Rattle.kpn_history.proofs.Kahn.{take-prefix}
-use Rattle.kpn_book.specs.Book.{Book, held_count}
-use Rattle.kpn_book.specs.Appending.{AllHappen}
-use Rattle.kpn_book.specs.Kept.{IsBook}
-use Rattle.kpn_book.specs.declared.outcome.Limits.{Limits}
-use Rattle.kpn_book.specs.declared.outcome.Outcome.{Outcome}
-use Rattle.kpn_book.specs.declared.outcome.Outcome.TheVariants.{Stopped}
-use Rattle.kpn_book.specs.declared.report.Report.{Report}
-use Rattle.kpn_book.specs.Outcomes.{IsOutcome, verdict_of}
-use Rattle.kpn_book.specs.Reports.{events_of, read_of_sinks, IsWrittenFrom, AreSupplied, IsReport, sink_numbers}
+use Rattle.kpn_book.proofs.Common.{◌≡◌, ℕ, ◌+◌, ◌<◌, ◌≤◌, max, Bool, ℤ, List, length, Some, sym, ap, ◌∙◌, subst, arith, [], take, map, get_or, true, false, count_by, take_all, length-map-range_with_len, get_or-map-range_with_len, IsPrefix-same, length_of_prefix, Tables, channel_at, is_source, given_by, IsPrefixOnSources, AgreeOnSources, list_of, IsNetwork, written_on, read_on, is_closed, is_left, Legal, OwesNothing, process_events, Agrees, is_held, Event, Verdict, View, reads_begin_writes, take-prefix, Book, held_count, AllHappen, IsBook, Limits, Outcome, Stopped, Report, IsOutcome, verdict_of, events_of, read_of_sinks, IsWrittenFrom, AreSupplied, IsReport, sink_numbers, IsFedBelow, ComesToOutcome, first_read, ReadsWithin}
 use Rattle.kpn_book.specs.RunHere.{supplies, takes_from_sinks, IsTurn, Turns, no_turn, one_turn_more, IsNewBook, IsReportHere}
-use Rattle.kpn_book.specs.Running.{IsFedBelow, ComesToOutcome, first_read, ReadsWithin}
 use Rattle.kpn_book.proofs.Agreeing.{same_list}
 use Rattle.kpn_book.proofs.Happening.{all_commits}
 use Rattle.kpn_book.proofs.Committing.{source_there}

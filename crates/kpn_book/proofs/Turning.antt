@@ -1,23 +1,9 @@
 -- What a run on one thread does, as the events that happen: what supplies the sources, what the outside takes from the
 -- sinks after a turn, and how many commits the turns are.
 use Rattle.std.proofs.Common.{◌≡◌, ℕ, zero, suc, ◌+◌, ◌<◌, ◌≤◌, Bool, true, false, ◌||◌, cond, ℤ, List, [], ◌∷◌, ◌++◌, length, map, slice_get, Option, Some, None, refl, sym, ap, ◌∙◌, subst, inl, inr, arith, append-nil, append_assoc}
-use Rattle.std.specs.List.{flat_map, range_with_len}
-use Rattle.std.proofs.lemmas.Bool.{cases_eq, ne_eqb}
-use Rattle.std.proofs.lemmas.List.{drop_all}
+use Rattle.kpn_book.proofs.Common.{flat_map, range_with_len, cases_eq, ne_eqb, drop_all, Tables, channel_at, is_source, is_sink, Family, Event, Feed, Close, Take, written_on, read_on, unread_on, is_closed, is_close_of, is_closed-next, Done, Book, Happens, AllHappen, ClaimsNobody, IsStep, supply_of, takes_of, takes_from_sinks, IsFrontStepped, IsLeftToItself}
 use Rattle.std.proofs.lemmas.Grind.{flat_map-append}
-use Rattle.kpn_net.specs.Tables.{Tables, channel_at, is_source, is_sink}
-use Rattle.kpn_net.specs.Process.{Family}
 use Rattle.kpn_book.proofs.Queueing.{range_next}
-use Rattle.kpn_history.specs.declared.event.Event.{Event}
-use Rattle.kpn_history.specs.declared.event.Event.TheVariants.{Feed, Close, Take}
-use Rattle.kpn_history.specs.Channels.{written_on, read_on, unread_on, is_closed, is_close_of}
-use Rattle.kpn_history.proofs.AfterEvent.{is_closed-next}
-use Rattle.kpn_book.specs.declared.answers.Done.{Done}
-use Rattle.kpn_book.specs.Book.{Book}
-use Rattle.kpn_book.specs.Appending.{Happens, AllHappen}
-use Rattle.kpn_book.specs.Stepping.{ClaimsNobody, IsStep}
-use Rattle.kpn_book.specs.RunHere.{supply_of, takes_of, takes_from_sinks}
-use Rattle.kpn_book.specs.Running.{IsFrontStepped, IsLeftToItself}
 use Rattle.kpn_book.proofs.Happening.{happens_closed, join, one}
 
 -- ---- a source is supplied

@@ -1,7 +1,5 @@
 -- Lists from which the first elements were taken.
-use Rattle.std.proofs.Common.{◌≡◌, ℕ, zero, suc, ◌+◌, Some, List, [], ◌∷◌, drop, slice_get, refl, ap, ◌∙◌}
-use Rattle.std.proofs.lemmas.List.{drop_more}
-use Rattle.std.proofs.lemmas.Option.{slice_get_within, get_or_from_slice_get}
+use Rattle.kpn_book.proofs.Common.{◌≡◌, ℕ, zero, suc, ◌+◌, Some, List, [], ◌∷◌, drop, slice_get, refl, ap, ◌∙◌, drop_more, slice_get_within, get_or_from_slice_get}
 
 pub first_taken : (xs : List ℕ) (taken p : ℕ) → slice_get xs taken ≡ Some p → drop taken xs ≡ p ∷ drop (taken + 1) xs
 first_taken xs taken p e =

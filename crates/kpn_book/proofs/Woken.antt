@@ -1,22 +1,8 @@
 -- An event makes ready exactly the processes that it wakes.
-use Rattle.std.proofs.Common.{◌≡◌, ℕ, ◌<◌, true, List, [], length, Option, Some, None, sym, ap, subst, inl, inr}
+use Rattle.kpn_book.proofs.Common.{◌≡◌, ℕ, ◌<◌, true, List, [], length, Option, Some, None, sym, ap, subst, inl, inr, option_to_list, Wait, Tables, writer_of, reader_of, IsNetwork, wait_at, AreWaits, AreDistinct, Empty, Full, Process, IsOwnWait, Contains-first, Contains-cases, Contains-none, Event, wakes, IsWoken, waiting_writer, waiting_reader, who_writes, who_reads, woken_at_end, woken_once, woken_by}
 use Rattle.std.specs.List.{Contains}
-use Rattle.std.specs.Option.{option_to_list}
-use Rattle.kpn_net.specs.declared.wait.Wait.{Wait}
-use Rattle.kpn_net.specs.Tables.{Tables, writer_of, reader_of}
-use Rattle.kpn_net.specs.Faults.{IsNetwork}
-use Rattle.kpn_net.specs.Waits.{wait_at, AreWaits, AreDistinct}
-use Rattle.kpn_net.specs.declared.wait.Wait.TheVariants.{Empty, Full}
-use Rattle.kpn_net.specs.declared.tables.End.TheVariants.{Process}
-use Rattle.kpn_net.specs.Waits.{IsOwnWait}
-use Rattle.kpn_net.proofs.Cycles.{Contains-first, Contains-cases, Contains-none}
-use Rattle.kpn_history.specs.declared.event.Event.{Event}
 use Rattle.kpn_history.specs.declared.event.Event.TheVariants.{Get, Put, Ended, Feed, Take, Leave, Grow}
-use Rattle.kpn_history.specs.Waking.{wakes, IsWoken}
 use Rattle.kpn_history.proofs.Waking.{woken}
-use Rattle.kpn_machine.specs.Woken.{waiting_writer, waiting_reader}
-use Rattle.kpn_machine.proofs.Waking.{who_writes, who_reads, woken_at_end, woken_once}
-use Rattle.kpn_book.specs.Appending.{woken_by}
 
 pub only_one : (o : Option ℕ) (q : ℕ) → Contains (option_to_list o) q → o ≡ Some q
 only_one None q among = absurd (Contains-none q among)

@@ -1,9 +1,6 @@
 -- The session of a call is the one that its box held.
 use Rattle.std.proofs.Common.{◌≡◌, Option, Some, None, sym, ap, ◌∙◌, subst}
-use Rattle.kpn_c.specs.Session.{Session}
-use Rattle.kpn_c.specs.declared.slot.Slot.{Slot}
-use Rattle.kpn_c.specs.Sessions.{slot_with}
-use Rattle.kpn_c.specs.Exports.{Leads}
+use Rattle.kpn_c.proofs.Common.{Session, Slot, slot_with, Leads}
 
 abbrev session_or : Session → Option Session → Session
 session_or s None = s

@@ -1,24 +1,14 @@
 -- No call changes the network.
 use Rattle.std.proofs.Common.{◌≡◌, ℕ, Bool, true, false, ℤ, Option, Some, None, List, [], ◌∷◌, map, take, Result, Ok, Err, refl, ap, ◌∙◌}
-use Rattle.std.specs.Prelude.{OnOk, OnErr}
-use Rattle.kpn_history.specs.declared.event.Event.{Event}
-use Rattle.kpn_history.specs.declared.event.Event.TheVariants.{Feed, Close, Take, Leave}
-use Rattle.kpn_machine.specs.Machine.{channel_in, closed_in}
+use Rattle.kpn_c.proofs.Common.{OnOk, OnErr, Event, Feed, Close, Take, Leave, channel_in, closed_in, Book, Happens, AllHappen, closes_by, Closes, leaves_by, Leaves, takes_item, TurnsFrom, no_turn, one_turn_more, stops_by, FeedsEach, StepsEach, TakesEach, SourceItem, Wanted, feed_of, TakesForEach, no_take, one_take_more, steps_if, takes_if, has_fed, has_stepped, Moves}
 use Rattle.kpn_book.specs.declared.answers.Done.{Done}
 use Rattle.kpn_book.specs.declared.answers.Refused.{Refused}
-use Rattle.kpn_book.specs.Book.{Book}
-use Rattle.kpn_book.specs.Appending.{Happens, AllHappen}
-use Rattle.kpn_book.specs.Refusals.{closes_by, Closes, leaves_by, Leaves, takes_item}
 use Rattle.kpn_book.specs.Stepping.{StepsNext, StepsInVain}
 use Rattle.kpn_book.proofs.Appended.{tables_stay, commit_tables}
-use Rattle.kpn_c.specs.Calls.{TurnsFrom, no_turn, one_turn_more, stops_by, FeedsEach, StepsEach, TakesEach}
 use Rattle.kpn_c.specs.declared.feeding.FedCount.{FedCount}
 use Rattle.kpn_c.specs.declared.stepping.StepCount.{StepCount}
 use Rattle.kpn_c.specs.declared.taking.Taken.{Taken}
-use Rattle.kpn_c.specs.declared.moving.SourceItem.{SourceItem}
-use Rattle.kpn_c.specs.declared.moving.Wanted.{Wanted}
 use Rattle.kpn_c.specs.declared.moving.Moved.{Moved}
-use Rattle.kpn_c.specs.Moving.{feed_of, TakesForEach, no_take, one_take_more, steps_if, takes_if, has_fed, has_stepped, Moves}
 
 happens_tables : (e : Event) (before after : Book) → Happens e before after → after.tables ≡ before.tables
 happens_tables e before after is = tables_stay (e ∷ is.growth) before after is.appends

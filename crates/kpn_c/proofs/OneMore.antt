@@ -1,12 +1,7 @@
 -- One more item is fed or taken, and one more list is cut off or joined.
 use Rattle.std.proofs.Common.{◌≡◌, ℕ, ◌+◌, ◌<◌, ℤ, pos, List, [], ◌∷◌, ◌++◌, length, map, take, drop, get_or, set, sym, ap, ◌∙◌, subst, inl, inr, arith}
 use Rattle.std.proofs.lemmas.Bool.{cases_eq}
-use Rattle.std.proofs.lemmas.List.{map-append, take_more, take_more_set, drop-set-lt, drop-drop}
-use Rattle.kpn_history.specs.declared.event.Event.{Event}
-use Rattle.kpn_history.specs.declared.event.Event.TheVariants.{Feed, Take}
-use Rattle.kpn_book.specs.Book.{Book}
-use Rattle.kpn_book.specs.Appending.{Happens, AllHappen}
-use Rattle.kpn_book.proofs.Happening.{join, one}
+use Rattle.kpn_c.proofs.Common.{map-append, take_more, take_more_set, drop-set-lt, drop-drop, Event, Feed, Take, Book, Happens, AllHappen, join, one}
 
 module _ {X : Type 0} (event : X → Event) (a b c : Book) where
   pub one_more : (xs : List X) (v : X) → AllHappen (map event xs) a b → Happens (event v) b c

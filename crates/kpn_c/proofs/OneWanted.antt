@@ -1,12 +1,6 @@
 -- One more item is fed or taken in a call that moves items.
 use Rattle.std.proofs.Common.{◌≡◌, ℕ, ◌+◌, ◌<◌, ℤ, pos, List, [], ◌∷◌, ◌++◌, length, map, take, drop, get_or, set, Option, sym, ap, ◌∙◌, subst, arith}
-use Rattle.std.proofs.lemmas.List.{take_more, take_more_set, get_or-drop}
-use Rattle.kpn_book.specs.Book.{Book}
-use Rattle.kpn_book.specs.Appending.{Happens, AllHappen}
-use Rattle.kpn_book.specs.Refusals.{Takes}
-use Rattle.kpn_c.specs.declared.moving.SourceItem.{SourceItem}
-use Rattle.kpn_c.specs.declared.moving.Wanted.{Wanted}
-use Rattle.kpn_c.specs.Moving.{feed_of, item_at, wanted_at, filled, TakesForEach, one_take_more}
+use Rattle.kpn_c.proofs.Common.{take_more, take_more_set, get_or-drop, Book, Happens, AllHappen, Takes, SourceItem, Wanted, feed_of, item_at, wanted_at, filled, TakesForEach, one_take_more}
 use Rattle.kpn_c.proofs.OneMore.{one_more}
 
 pub feeds_more : (items : List SourceItem) (count : ℕ) (a b c : Book) → count < length items

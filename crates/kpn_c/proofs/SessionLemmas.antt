@@ -2,10 +2,7 @@
 use Rattle.std.proofs.Common.{◌≡◌, Bool, refl, sym, ap, ◌∙◌, subst}
 use Rattle.kpn_text.specs.Document.{Document}
 use Rattle.kpn_book.specs.declared.detached.Detached.{Detached}
-use Rattle.kpn_book.specs.Book.{Book}
-use Rattle.kpn_book.specs.Kept.{IsBook}
-use Rattle.kpn_book.specs.Detached.{book_on}
-use Rattle.kpn_c.specs.Session.{Session, session_of}
+use Rattle.kpn_c.proofs.Common.{Book, IsBook, book_on, Session, session_of}
 
 -- from the attached book to the one that is detached
 module _ (d : Document) (before : Detached) (opened last : Book) (after : Detached)

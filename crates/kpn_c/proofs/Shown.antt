@@ -1,10 +1,7 @@
 -- One more item is shown.
 use Rattle.std.proofs.Common.{◌≡◌, ℕ, ◌+◌, ◌<◌, ℤ, pos, List, [], ◌∷◌, ◌++◌, length, take, set, Some, sym, ap, ◌∙◌, arith}
-use Rattle.std.specs.Prelude.{slice_get}
-use Rattle.std.proofs.lemmas.List.{take_more, take_more_set}
+use Rattle.kpn_c.proofs.Common.{slice_get, take_more, take_more_set, ChannelState, item_after, next_items}
 use Rattle.std.proofs.lemmas.Option.{slice_get_within, get_or_from_slice_get}
-use Rattle.kpn_chan.specs.Channel.{ChannelState, item_after}
-use Rattle.kpn_c.specs.States.{next_items}
 
 next_is : (k : ℕ) (ch : ChannelState) → item_after k ch ≡ slice_get (next_items ch) k
 next_is k ch = grind (arith)

@@ -19,19 +19,15 @@ use denote.Param.Laws.{Laws}
 use denote.Struct.Struct.{within}
 use denote.Struct.Owning.{shape}
 use Rattle.core.specs.declared.alloc.Allocator.{Ghosts}
-use Rattle.core.proofs.alloc.Calls.{Al, handle_tells}
-use Rattle.core.proofs.cell.Inside.{Good}
-use Rattle.std_alloc.specs.Box.Ownership.{box_owns}
+use Rattle.kpn_c.proofs.Common.{Al, handle_tells, Good, box_owns, ghosts, Slot}
 use Rattle.std_alloc.proofs.ResultValues.{and_tt}
 use Rattle.std.specs.Prelude.{Option, Some, None, IsSome}
 use Rattle.std.specs.declared.alloc.Global.{Global}
 use Rattle.std.specs.contracts.alloc.Global as heap
 use Rattle.std.proofs.alloc.Global.TheLaws as heap_laws
-use Rattle.std.specs.contracts.impls.GlobalAllocator.TheImpl.{ghosts}
 use Rattle.kpn_c.specs.contracts.loose.Loose as loose
 use Rattle.kpn_c.specs.contracts.held.Held as held
 use Rattle.kpn_c.specs.contracts.slot.Slot as slot
-use Rattle.kpn_c.specs.declared.slot.Slot.{Slot}
 use Rattle.kpn_c.specs.Holding.{owns_slot}
 
 abbrev pub both : Val → Val → Val

@@ -1,3 +1,4 @@
+pub mod Common
 pub mod Walks
 pub mod Places
 pub mod Reading

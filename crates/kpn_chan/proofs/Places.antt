@@ -1,22 +1,10 @@
 -- Where the items of a list in chunks are.
 use Rattle.std.specs.Prelude.{◌≡◌, ℕ, zero, suc, ◌+◌, ◌-◌, ◌*◌, ◌/◌, ◌%◌, ◌<◌, ◌≤◌, ℤ, ◌||◌, ◌&&◌, Bool, true, false, IsTrue, cond, is_some, List, [], ◌∷◌, ◌++◌, length, take, drop, get_or, slice_get, min, max, Option, Some, None, Result, Ok, Err, IsOk, OnOk, Vec, ◌^◌, refl}
-use Rattle.std.specs.Option.{unwrap_or, is_none}
-use Rattle.std.specs.Bool.{Decides}
+use Rattle.kpn_chan.proofs.Common.{unwrap_or, is_none, Decides, arith, sym, ap, ◌∙◌, subst, inl, inr, eqb, leb, length-drop, drop-append-add, take-append_seam, take-length, drop-length, cases_lt, and_parts, or_cases, eqb-true, leb-true, false≢true, length-append, drop-append-le, append_assoc, append-nil, take-append-drop, drop-drop, slice_get_within, AreFull, IsChunks, IsCounted, HasNext, HasPlacesFor, items_of, all_of, ChannelState, after_put, batch_joined, has_places_for, MayJoin, IsLaidOut, IsRoomy, made_for, HasPlaces, MayPass, passed_through, MOST_GONE, MAX_CHUNKS, Buffer, buffer, CHUNK}
 use Rattle.std.specs.List.{flat_map}
-use Rattle.std.proofs.Common.{arith, sym, ap, ◌∙◌, subst, inl, inr, eqb, leb, length-drop}
-use Rattle.std.proofs.Math.Seq.{drop-append-add, take-append_seam, take-length, drop-length}
-use Rattle.std.proofs.lemmas.Bool.{cases_lt, and_parts, or_cases, eqb-true, leb-true, false≢true}
-use Rattle.std.proofs.lemmas.List.{length-append, drop-append-le, append_assoc, append-nil, take-append-drop, drop-drop}
-use Rattle.std.proofs.lemmas.Option.{slice_get_within}
 use Rattle.circular_buffer.proofs.Places.{slice_get-drop}
 use Rattle.kpn_chan.specs.declared.chunks.Chunks.{Chunks}
-use Rattle.kpn_chan.specs.Chunks.{AreFull, IsChunks, IsCounted, HasNext, HasPlacesFor, items_of, all_of}
-use Rattle.kpn_chan.specs.Channel.{ChannelState, after_put, batch_joined, has_places_for, MayJoin}
-use Rattle.kpn_chan.specs.Ring.{IsLaidOut, IsRoomy, made_for, HasPlaces, MayPass, passed_through}
-use Rattle.kpn_chan.specs.declared.chunks.TheConstants.{MOST_GONE, MAX_CHUNKS}
 use Rattle.kpn_chan.specs.declared.channel.TheConstants.{FIRST_PLACES}
-use Rattle.circular_buffer.specs.Buffer.{Buffer, buffer}
-use Rattle.kpn_chan.specs.declared.chunks.TheConstants.{CHUNK}
 
 -- the first item stays if others are put after it
 first_stays : (xs ys : List ℤ) → 0 < length xs → slice_get (xs ++ ys) 0 ≡ slice_get xs 0

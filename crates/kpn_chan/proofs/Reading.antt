@@ -1,10 +1,7 @@
 -- What a read returns, and when it returns nothing.
 use Rattle.std.specs.Prelude.{◌≡◌, ℕ, suc, ◌+◌, ◌<◌, ℤ, Bool, true, false, ◌⊎◌, ◌↔◌, IsTrue, if◌then◌else◌, List, [], ◌∷◌, ◌++◌, length, take, drop, get_or, Option, Some, None, slice_get, refl}
-use Rattle.std.proofs.Common.{arith, sym, ap, ◌∙◌, inl, inr, length-drop}
+use Rattle.kpn_chan.proofs.Common.{arith, sym, ap, ◌∙◌, inl, inr, length-drop, drop-cons, take-suc, get_or-drop, slice_get_within, get_or_from_slice_get}
 use Rattle.std.proofs.Math.Numerals.{suc-eq-add-one}
-use Rattle.std.proofs.Math.Seq.{drop-cons, take-suc}
-use Rattle.std.proofs.lemmas.List.{get_or-drop}
-use Rattle.std.proofs.lemmas.Option.{slice_get_within, get_or_from_slice_get}
 
 -- if a read returns an item, the reader is there
 pub given : (gone : Bool) (found : Option ℤ) (item : ℤ) → (if gone then None else found) ≡ Some item → found ≡ Some item

@@ -1,15 +1,7 @@
 -- Outputs that are apart, one more at a time, and outputs that are refused.
-use Rattle.std.proofs.Common.{◌≡◌, ◌<◌, ◌+◌, ℕ, suc, List, Bor, [], ◌∷◌, ◌++◌, All, Option, Some, map, length, get_or, take, drop, refl, inl, inr, sym, ap, subst, ◌∙◌, drop-cons}
+use Rattle.kpn_command_base.proofs.Common.{◌≡◌, ◌<◌, ◌+◌, ℕ, suc, List, Bor, [], ◌∷◌, ◌++◌, All, Option, Some, map, length, get_or, take, drop, refl, inl, inr, sym, ap, subst, ◌∙◌, drop-cons, All-push, RunRequest, Refusal, TraceWord, SinkWord, Output, NoMemory, Loads, Aliases, IsRefusalOfRunInputs, name_in, FileWords, words_of, IsApart, AreTwoOutputs, AreNamesApart, AreOutputsApart, trace_name, outputs_of, MayMeet, IsRefusalOfOutput, IsRefusalOfSome, HasInputs, IsUnready, IsUnprepared}
 use Rattle.std.proofs.lemmas.List.{take-append-drop, take_more, map-append}
-use Rattle.std.proofs.lemmas.List.Elements.{All-push}
 use Rattle.std.proofs.lemmas.List.Quantifiers.{all_pairs_push}
-use Rattle.kpn_command_base.specs.RunRequest.{RunRequest}
-use Rattle.kpn_command_base.specs.declared.refusal.Refusal.{Refusal}
-use Rattle.kpn_command_base.specs.declared.refusal.Refusal.TheVariants.{TraceWord, SinkWord, Output, NoMemory}
-use Rattle.kpn_shelf.specs.Shelf.{Loads, Aliases}
-use Rattle.kpn_command_base.specs.Inputs.{IsRefusalOfRunInputs}
-use Rattle.kpn_command_base.specs.Sources.{name_in}
-use Rattle.kpn_command_base.specs.Outputs.{FileWords, words_of, IsApart, AreTwoOutputs, AreNamesApart, AreOutputsApart, trace_name, outputs_of, MayMeet, IsRefusalOfOutput, IsRefusalOfSome, HasInputs, IsUnready, IsUnprepared}
 
 abbrev pub now : Bor (List ℕ) → List ℕ
 now word = word.now

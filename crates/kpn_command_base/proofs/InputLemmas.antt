@@ -1,15 +1,6 @@
 -- Each refusal of a stage is a refusal of the inputs.
-use Rattle.std.proofs.Common.{◌≡◌, ◌⊎◌, ℕ, List, [], map, All, Ok, inl, inr, sym, subst}
-use Rattle.kpn_text.specs.Document.{Document}
-use Rattle.kpn_command_base.specs.declared.refusal.Refusal.{Refusal}
-use Rattle.kpn_command_base.specs.declared.refusal.Refusal.TheVariants.{Input, Description, Names, NoMemory, SourceWord}
-use Rattle.kpn_command_base.specs.declared.sources.EndKind.TheVariants.{Sources, Sinks}
+use Rattle.kpn_command_base.proofs.Common.{◌≡◌, ◌⊎◌, ℕ, List, [], map, All, Ok, inl, inr, sym, subst, Document, Refusal, Input, Description, Names, NoMemory, SourceWord, Sources, Sinks, IsDescribed, IsRefusalOfDescription, HasEquals, name_in, file_in, sources_named, sinks_named, IsRefusalOfWords, IsRefusalOfNames, IsRefusalOfItems, AreRefusedNames, AreRefusedSinks, IsRefusalOfInputs, IsRefusalOfRunInputs, Loads}
 use Rattle.kpn_command_base.specs.declared.option_fault.OptionFault.{OptionFault}
-use Rattle.kpn_command_base.specs.Description.{IsDescribed, IsRefusalOfDescription}
-use Rattle.kpn_command_base.specs.Sources.{HasEquals, name_in, file_in, sources_named, sinks_named}
-use Rattle.kpn_command_base.specs.SourceRefusals.{IsRefusalOfWords, IsRefusalOfNames, IsRefusalOfItems}
-use Rattle.kpn_command_base.specs.Inputs.{AreRefusedNames, AreRefusedSinks, IsRefusalOfInputs, IsRefusalOfRunInputs}
-use Rattle.kpn_shelf.specs.Shelf.{Loads}
 
 module _ (may_give : Loads) (file : List ℕ) (words names : List (List ℕ)) where
   pub words_refused : (refusal : Refusal) → IsRefusalOfWords SourceWord words refusal

@@ -1,3 +1,4 @@
+pub mod Common
 pub mod PieceLemmas
 pub mod SourceLemmas
 pub mod InputLemmas

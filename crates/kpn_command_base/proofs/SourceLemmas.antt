@@ -1,18 +1,12 @@
 -- Sources by number, and the lists in their places.
-use Rattle.std.proofs.Common.{◌≡◌, ℕ, suc, ◌+◌, ◌<◌, ℤ, Bool, true, false, cond, ◌||◌, List, [], ◌∷◌, ◌++◌, length, get_or, set, take, drop, map, count_by, nat_eq, replicate, Option, Some, Ok, Err, refl, sym, ap, subst, ◌∙◌, arith, drop-cons}
+use Rattle.kpn_command_base.proofs.Common.{◌≡◌, ℕ, suc, ◌+◌, ◌<◌, ℤ, Bool, true, false, cond, ◌||◌, List, [], ◌∷◌, ◌++◌, length, get_or, set, take, drop, map, count_by, nat_eq, replicate, Option, Some, Ok, Err, refl, sym, ap, subst, ◌∙◌, arith, drop-cons, Tables, channel_at, Refusal, Input, IsRefusalOfFile, IsRefusalOfItems, with_named_end, placed_lists, IsItemFile, AreGiven, Loads}
 use Rattle.std.specs.List.{AllZip, list_any}
 use Rattle.std.proofs.lemmas.List.{length-map, take-append-drop, map-append, map_more}
 use Rattle.std.proofs.lemmas.List.Sums.{count_by_more_yes, sum_by-take-le}
 use Rattle.std.proofs.lemmas.Slice.Zip.{AllZip-long}
 use Rattle.kpn_net.specs.declared.tables.ChannelSpec.{ChannelSpec}
-use Rattle.kpn_net.specs.Tables.{Tables, channel_at}
 use Rattle.kpn_text_items.proofs.FileLemmas.{AllZip-push}
 use Rattle.kpn_command_base.specs.declared.option_fault.OptionFault.TheVariants.{Double}
-use Rattle.kpn_command_base.specs.declared.refusal.Refusal.{Refusal}
-use Rattle.kpn_command_base.specs.declared.refusal.Refusal.TheVariants.{Input}
-use Rattle.kpn_command_base.specs.SourceRefusals.{IsRefusalOfFile, IsRefusalOfItems}
-use Rattle.kpn_command_base.specs.Sources.{with_named_end, placed_lists, IsItemFile, AreGiven}
-use Rattle.kpn_shelf.specs.Shelf.{Loads}
 
 -- one more list is put in the place of its source
 pub placed_lists-more : (named : List ℕ) (lists given : List (List ℤ)) (source : ℕ) (items : List ℤ)

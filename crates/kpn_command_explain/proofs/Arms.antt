@@ -1,14 +1,11 @@
 -- What an arm of a command gives is what the command may give.
-use Rattle.std.proofs.Common.{◌≡◌, ◌⊎◌, ◌≢◌, inl, inr, ℕ, ℤ, List, length, Ok, subst, sym}
+use Rattle.kpn_command_explain.proofs.Common.{◌≡◌, ◌⊎◌, ◌≢◌, inl, inr, ℕ, ℤ, List, length, Ok, subst, sym, Document, Refusal, Loads}
 use Rattle.kpn_text_items.specs.ItemFile.{Spells as SpellsItems, IsFirstBad}
 use Rattle.kpn_text.specs.declared.fault.TextFault.{TextFault}
-use Rattle.kpn_text.specs.Document.{Document}
 use Rattle.kpn_text.specs.Spells.{SpellsDocument}
 use Rattle.kpn_text.specs.Phases.{Refuses}
-use Rattle.kpn_command_base.specs.declared.refusal.Refusal.{Refusal}
 use Rattle.kpn_command_base.specs.declared.refusal.Refusal.TheVariants.{Description, NoMemory}
 use Rattle.kpn_command_base.specs.Refusal.{status_of}
-use Rattle.kpn_shelf.specs.Shelf.{Loads}
 use Rattle.kpn_command_base.specs.Counts.{summary_text}
 use Rattle.kpn_command_explain.specs.Answers.{Explains, IsExplained, right, wrong, IsRefusalOfExplaining, items_line, ExplainsLine, AreItemsExplained, right_items, wrong_line, IsRefusalOfItemFile}
 

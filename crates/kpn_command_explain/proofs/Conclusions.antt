@@ -1,25 +1,19 @@
 -- What is found of the bytes of a trace, as what is explained of them.
-use Rattle.std.proofs.Common.{◌≡◌, ℕ, ◌<◌, List, length, Ok, refl, subst, arith}
+use Rattle.kpn_command_explain.proofs.Common.{◌≡◌, ℕ, ◌<◌, List, length, Ok, refl, subst, arith, Tables, Document, Refusal, Loads, Flaw, IsFinding, IsFlaw, IsNoFinding}
 use Rattle.std.specs.declared.alloc.Global.{Global}
-use Rattle.kpn_net.specs.Tables.{Tables}
 use Rattle.kpn_history.specs.declared.stored.Trace.{Trace}
 use Rattle.kpn_trace.specs.TraceText.{SpellsTrace}
-use Rattle.kpn_text.specs.Document.{Document}
 use Rattle.kpn_audit.specs.declared.findings.AuditFault.TheVariants.{Illegal}
 use Rattle.kpn_audit.specs.declared.scene.Scene.{Scene}
 use Rattle.kpn_audit.specs.Audit.{IsRefusal}
 use Rattle.kpn_audit.specs.Scene.{IsSceneBefore}
 use Rattle.kpn_audit.specs.Stored.{tables_for}
 use Rattle.kpn_audit.proofs.Telling.{history_of-length}
-use Rattle.kpn_command_base.specs.declared.refusal.Refusal.{Refusal}
 use Rattle.kpn_command_base.specs.declared.refusal.Refusal.TheVariants as refusal
-use Rattle.kpn_shelf.specs.Shelf.{Loads}
 use Rattle.kpn_command_base.specs.Description.{IsDescribed}
 use Rattle.kpn_command_base.specs.declared.auditing.Finding.{Finding}
 use Rattle.kpn_command_base.specs.declared.auditing.Finding.TheVariants.{NotLegal}
-use Rattle.kpn_command_base.specs.declared.flaw.Flaw.{Flaw}
 use Rattle.kpn_command_base.specs.declared.flaw.Flaw.TheVariants as of_trace
-use Rattle.kpn_command_base.specs.Audited.{IsFinding, IsFlaw, IsNoFinding}
 use Rattle.kpn_command_explain.specs.TraceAnswers.{ExplainsEvent, IsConclusion, IsNoExplanation, IsRefusalOfExplaining, illegal}
 
 -- ---- conclusions

@@ -1,2 +1,3 @@
+pub mod Common
 pub mod Arms
 pub mod Conclusions

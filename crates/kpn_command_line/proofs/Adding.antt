@@ -1,11 +1,7 @@
 -- A command that is added to a program, and a word that is added to a command.
-use Rattle.std.proofs.Common.{◌∙◌, ap, refl, Result, Ok, Err, IfOk}
+use Rattle.kpn_command_line.proofs.Common.{◌∙◌, ap, refl, Result, Ok, Err, IfOk, App, shape_of, with_rule, with_subcommand, Rule, rule_of, Command, IsArg, IsCommand}
 use Rattle.clap.specs.Built.{AddsArg, AddsSubcommand}
-use Rattle.clap.specs.Simple.{App, shape_of, with_rule, with_subcommand}
-use Rattle.clap.specs.Walk.{Rule, rule_of}
 use Rattle.clap.specs.declared.builder.arg.Arg.{Arg}
-use Rattle.clap.specs.declared.builder.command.Command.{Command}
-use Rattle.kpn_command_line.specs.CommandLine.{IsArg, IsCommand}
 
 module _ (before command : App) (program words : Command) (is : IsCommand before program)
     (also : IsCommand command words) where

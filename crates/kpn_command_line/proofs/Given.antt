@@ -1,18 +1,10 @@
 -- What the getters of matches read is what is given.
-use Rattle.std.proofs.Common.{◌≡◌, ◌∙◌, ◌&&◌, ◌^◌, ℕ, Bool, true, false, List, [], ◌∷◌, length, Option, Some, None}
-use Rattle.std.proofs.Common.{Result, Ok, Err, sym, refl, ap, map, option_map, nat_lt, lt-ltb, ltb-true}
-use Rattle.std.specs.Prelude.{unwrap_or, option_and_then}
-use Rattle.std.specs.Borrow.{Bor}
+use Rattle.kpn_command_line.proofs.Common.{◌≡◌, ◌∙◌, ◌&&◌, ◌^◌, ℕ, Bool, true, false, List, [], ◌∷◌, length, Option, Some, None, Result, Ok, Err, sym, refl, ap, map, option_map, nat_lt, lt-ltb, ltb-true, unwrap_or, option_and_then, Bor, list_all, AllDigits, ParsesUnsigned, digits_value, without_leading_plus, ReadsOne, first_value, matched_of, one_text, raw_values, rows_of, text_for, texts_for, number_in, number_for}
 use Rattle.std.specs.Char.{digit_value}
-use Rattle.std.specs.List.{list_all}
 use Rattle.std.specs.Result.{result_ok}
-use Rattle.std.specs.Str.Parse.{AllDigits, ParsesUnsigned, digits_value, without_leading_plus}
-use Rattle.clap.specs.Matches.{ReadsOne, first_value, matched_of, one_text, raw_values}
 use Rattle.clap.specs.ValueTests.{is_numeral}
-use Rattle.clap.specs.Walk.{rows_of}
 use Rattle.clap.specs.declared.parser.matches.Found.{Found}
 use Rattle.clap.proofs.WalkLemmas.{both, first_value-rows, one_text-rows, raw_values-rows}
-use Rattle.kpn_command_line.specs.Asked.{text_for, texts_for, number_in, number_for}
 
 pub text_given : (f : Found) (id : List ℕ) (text : Option (Bor (List ℕ)))
     → option_map (λ t. t.now) text ≡ first_value f id → text_for id (rows_of f) ≡ option_map (λ t. t.now) text

@@ -1,20 +1,8 @@
 -- What `clap` makes of the words: help is given only if it was asked for, and words are refused only for a fault.
-use Rattle.std.proofs.Common.{rules, true, refl, ◌≡◌, ◌⊎◌, ◌∙◌, ℕ, List, [], sym, subst, inl, inr, Result, Ok, Err}
-use Rattle.std.specs.Prelude.{MatchResult}
-use Rattle.clap.specs.Kinds.{HasKind, IsAmong, Kinds}
-use Rattle.clap.specs.Faults.{fault_of, is_simple_and_free}
-use Rattle.clap.specs.Simple.{App, HasMatchesOf, app_of, is_simple, subcommand_of, subcommand_rows_of}
+use Rattle.kpn_command_line.proofs.Common.{rules, true, refl, ◌≡◌, ◌⊎◌, ◌∙◌, ℕ, List, [], sym, subst, inl, inr, Result, Ok, Err, MatchResult, HasKind, IsAmong, Kinds, fault_of, is_simple_and_free, App, HasMatchesOf, app_of, is_simple, subcommand_of, subcommand_rows_of, Command, DisplayHelp, DisplayVersion, OutOfMemory, Request, Help, WordsFault, Usage, NoMemory, IsCommand, command_line, AsksForHelp, IsAsked, IsRefused, IsHelpOfKind, IsRefusalOfKind}
 use Rattle.clap.specs.declared.parser.matches.ArgMatches.{ArgMatches}
-use Rattle.clap.specs.declared.builder.command.Command.{Command}
 use Rattle.clap.specs.declared.error.Error.{Error}
 use Rattle.clap.specs.declared.error.kind.ErrorKind.{ErrorKind}
-use Rattle.clap.specs.declared.error.kind.ErrorKind.TheVariants.{DisplayHelp, DisplayVersion, OutOfMemory}
-use Rattle.kpn_command_line.specs.declared.request.Request.{Request}
-use Rattle.kpn_command_line.specs.declared.request.Request.TheVariants.{Help}
-use Rattle.kpn_command_line.specs.declared.request.WordsFault.{WordsFault}
-use Rattle.kpn_command_line.specs.declared.request.WordsFault.TheVariants.{Usage, NoMemory}
-use Rattle.kpn_command_line.specs.CommandLine.{IsCommand, command_line}
-use Rattle.kpn_command_line.specs.Asked.{AsksForHelp, IsAsked, IsRefused, IsHelpOfKind, IsRefusalOfKind}
 
 -- memory that ran out is no help
 is_among : (kind wanted : ErrorKind) (kinds : Kinds) → (wanted ≡ OutOfMemory → ⊥) → kind ≡ wanted

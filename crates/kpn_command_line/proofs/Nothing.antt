@@ -1,24 +1,8 @@
 -- Words that name a command and do not give it what it needs ask for nothing.
-use Rattle.std.specs.Borrow.{Bor}
-use Rattle.std.proofs.Common.{◌≡◌, ◌∙◌, ◌||◌, ◌%◌, ℕ, length, Bool, true, false, true≢false, List, [], ◌∷◌, map, refl, sym, ap, subst}
-use Rattle.std.proofs.Common.{inl, inr, Option, Some, None, codes, Result, Ok, Err}
-use Rattle.std.specs.Prelude.{unwrap_or, MatchResult}
-use Rattle.std.specs.List.{list_any}
+use Rattle.kpn_command_line.proofs.Common.{Bor, ◌≡◌, ◌∙◌, ◌||◌, ◌%◌, ℕ, length, Bool, true, false, true≢false, List, [], ◌∷◌, map, refl, sym, ap, subst, inl, inr, Option, Some, None, codes, Result, Ok, Err, unwrap_or, MatchResult, list_any, bytes_eq-Decides, IsAmong, fault_of, Row, DisplayHelp, DisplayVersion, Request, Explain, ExplainItems, Join, Rounds, Stats, Help, WordsFault, Usage, NoMemory, all_words, command_line, AnswersTo, AsksForHelp, IsAsked, IsNoneOf, IsNoTable, IsOf, IsRefused, IsUsageIf, NamesCommand, GivesToCommand, command_of, text_for, texts_for, number_for, is_set}
 use Rattle.std.specs.Option.{is_some}
 use Rattle.std.specs.Str.{bytes_eq}
 use Rattle.std.proofs.lemmas.List.{length-map}
-use Rattle.std.proofs.lemmas.Slice.Eq.{bytes_eq-Decides}
-use Rattle.clap.specs.Kinds.{IsAmong}
-use Rattle.clap.specs.Faults.{fault_of}
-use Rattle.clap.specs.Walk.{Row}
-use Rattle.clap.specs.declared.error.kind.ErrorKind.TheVariants.{DisplayHelp, DisplayVersion}
-use Rattle.kpn_command_line.specs.declared.request.Request.{Request}
-use Rattle.kpn_command_line.specs.declared.request.Request.TheVariants.{Explain, ExplainItems, Join, Rounds, Stats, Help}
-use Rattle.kpn_command_line.specs.declared.request.WordsFault.{WordsFault}
-use Rattle.kpn_command_line.specs.declared.request.WordsFault.TheVariants.{Usage, NoMemory}
-use Rattle.kpn_command_line.specs.CommandLine.{all_words, command_line}
-use Rattle.kpn_command_line.specs.Asked.{AnswersTo, AsksForHelp, IsAsked, IsNoneOf, IsNoTable, IsOf, IsRefused, IsUsageIf}
-use Rattle.kpn_command_line.specs.Asked.{NamesCommand, GivesToCommand, command_of, text_for, texts_for, number_for, is_set}
 
 differ : (a b : List ℕ) → bytes_eq a a ≡ true → bytes_eq a b ≡ false → b ≡ a → ⊥
 differ a b same other e = true≢false (sym same ∙ (ap (bytes_eq a) (sym e) ∙ other))

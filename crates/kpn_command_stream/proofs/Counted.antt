@@ -1,15 +1,10 @@
 -- The counters of a channel are the lengths of its lists.
-use Rattle.std.proofs.Common.{◌≡◌, ◌∙◌, ℕ, ◌+◌, ◌<◌, ℤ, List, [], ◌∷◌, ◌++◌, length, drop, get_or, length-append, sym, ap, subst, arith, inl, inr}
-use Rattle.std.proofs.lemmas.Bool.{cases_lt}
-use Rattle.std.proofs.lemmas.List.{get_or_append_left}
+use Rattle.kpn_command_stream.proofs.Common.{◌≡◌, ◌∙◌, ℕ, ◌+◌, ◌<◌, ℤ, List, [], ◌∷◌, ◌++◌, length, drop, get_or, length-append, sym, ap, subst, arith, inl, inr, cases_lt, get_or_append_left, Book, IsBook, AreCounted, IsCounted}
 use Rattle.std.proofs.Math.Seq.{drop-append_seam, get_or-append_seam}
 use Rattle.kpn_history.specs.Channels.{written_on, read_on, unread_on}
 use Rattle.kpn_machine.specs.Machine.{channel_in}
 use Rattle.kpn_machine.proofs.Moments.{journal_now}
-use Rattle.kpn_book.specs.Book.{Book}
-use Rattle.kpn_book.specs.Kept.{IsBook}
 use Rattle.kpn_command_stream.specs.declared.counters.ChannelCounts.{ChannelCounts}
-use Rattle.kpn_command_stream.specs.Counters.{AreCounted, IsCounted}
 
 -- what of a channel is not read
 abbrev pub rest_of : Book → (c : ℕ) → List ℤ

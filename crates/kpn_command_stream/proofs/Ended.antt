@@ -1,14 +1,7 @@
 -- What is told of the end of a stream of which nothing has failed.
-use Rattle.std.proofs.Common.{◌≡◌, ℕ, List, [], ◌∷◌, Option, Some, None, Result, Ok, Err, refl, sym, subst}
+use Rattle.kpn_command_stream.proofs.Common.{◌≡◌, ℕ, List, [], ◌∷◌, Option, Some, None, Result, Ok, Err, refl, sym, subst, StreamEnding, Refusal, IsLineTold, Lost, SinkEnd, ending_fault, first_status, lost_fault, summary_fault, trace_fault, IsSummaryMade, IsSummaryOf, IsSummaryTold, IsTextTold, end_fault}
 use Rattle.std.specs.Global.{Vec}
 use Rattle.std.specs.Prelude.{Bool, true, false, IfOk}
-use Rattle.kpn_stream.specs.declared.ending.StreamEnding.{StreamEnding}
-use Rattle.kpn_command_base.specs.declared.refusal.Refusal.{Refusal}
-use Rattle.kpn_command_base.specs.Told.{IsLineTold}
-use Rattle.kpn_command_stream.specs.declared.running.Lost.{Lost}
-use Rattle.kpn_command_stream.specs.declared.summary.SinkEnd.{SinkEnd}
-use Rattle.kpn_command_stream.specs.Refusal.{ending_fault, first_status, lost_fault, summary_fault, trace_fault}
-use Rattle.kpn_command_stream.specs.Command.{IsSummaryMade, IsSummaryOf, IsSummaryTold, IsTextTold, end_fault}
 
 none_of : (first later : Option ℕ) → first_status first later ≡ None → (first ≡ None) × (later ≡ None)
 none_of None later none = (refl, none)

@@ -1,10 +1,6 @@
 -- No process has faulted, one process more.
 use Rattle.std.proofs.Common.{◌≡◌, ◌+◌, ℕ, false, subst, arith, inl, inr}
-use Rattle.std.proofs.lemmas.Bool.{cases_lt}
-use Rattle.kpn_book.specs.Book.{Book}
-use Rattle.kpn_book.specs.Schedule.{state_at}
-use Rattle.kpn_command_base.specs.Faulted.{is_faulted}
-use Rattle.kpn_command_stream.specs.Watching.{HaveNotFaulted}
+use Rattle.kpn_command_stream.proofs.Common.{cases_lt, Book, state_at, is_faulted, HaveNotFaulted}
 
 pub not_faulted_more : (b : Book) (p : ℕ) → HaveNotFaulted p b → is_faulted (state_at b.schedule.states p) ≡ false
     → HaveNotFaulted (p + 1) b

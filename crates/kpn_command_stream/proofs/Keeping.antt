@@ -1,26 +1,13 @@
 -- The devices of a stream keep the references to standard input and output.
 use Rattle.std.proofs.Common.{◌≡◌, ◌∙◌, ℕ, Bool, false, ℤ, List, Option, Some, None, Result, Ok, Err, refl, ap, subst}
-use Rattle.kpn_history.specs.declared.event.Event.{Event}
+use Rattle.kpn_command_stream.proofs.Common.{Event, SinkFault, SourceInputs, SinkOutputs, InputsGive, InputsLook, by_input, by_none, at_input, at_none, OutputRel, OutputsDo, Document, KnowsEnded, LooksAt, Tables, Book, Limits, StreamEnding, Lost, HandedOn, KnownOfDevices, RanOver}
 use Rattle.kpn_stream.specs.declared.faults.SourceFault.{SourceFault}
-use Rattle.kpn_stream.specs.declared.faults.SinkFault.{SinkFault}
 use Rattle.kpn_stream.specs.Devices.{Fed, Served, at_first, by_others, by_look, by_item, by_end, by_fault, by_no_memory}
 use Rattle.kpn_stream.specs.Devices.{none_yet, meanwhile, took, took_not, flushed, flushed_not, took_in_vain, left, left_not, had_enough, had_enough_not}
-use Rattle.kpn_stream_devices.specs.declared.inputs.SourceInputs.{SourceInputs}
-use Rattle.kpn_stream_devices.specs.declared.outputs.SinkOutputs.{SinkOutputs}
-use Rattle.kpn_stream_devices.specs.SourceInputs.{InputsGive, InputsLook, by_input, by_none, at_input, at_none}
 use Rattle.kpn_stream_devices.specs.SinkOutputs as outputs
-use Rattle.kpn_stream_devices.specs.SinkOutputs.{OutputRel, OutputsDo}
 use Rattle.kpn_stream.specs.Watching.{Watched, not_yet_seen, by_steps, by_reads, seen}
-use Rattle.kpn_text.specs.Document.{Document}
 use Rattle.kpn_command_stream.specs.declared.watching.StreamWatcher.{StreamWatcher}
-use Rattle.kpn_command_stream.specs.Watching.{KnowsEnded, LooksAt}
 use Rattle.kpn_command_stream.specs.Command as command
-use Rattle.kpn_net.specs.Tables.{Tables}
-use Rattle.kpn_book.specs.Book.{Book}
-use Rattle.kpn_book.specs.declared.outcome.Limits.{Limits}
-use Rattle.kpn_stream.specs.declared.ending.StreamEnding.{StreamEnding}
-use Rattle.kpn_command_stream.specs.declared.running.Lost.{Lost}
-use Rattle.kpn_command_stream.specs.Command.{HandedOn, KnownOfDevices, RanOver}
 
 -- a watcher keeps the reference to the place for faults
 pub watched_keeps : {E : Type 0} (hears : E → Document → Book → E → Type 0) (t : Tables) (first : StreamWatcher E)

@@ -1,26 +1,10 @@
 -- Lists of places and of sinks, one more at a time.
 use Rattle.std.proofs.Common.{◌≡◌, ℕ, zero, suc, ◌+◌, ◌<◌, ◌≤◌, Bool, true, false, cond, not, Bor, List, [], ◌∷◌, ◌++◌, map, take, length, get_or, slice_set, All, append-nil, take_all, le_refl, refl, Some, Result, Ok, Err, sym, ap, ◌∙◌, subst, arith, Option, None}
-use Rattle.std.specs.List.{AllPairs, AllZip, filter}
-use Rattle.std.proofs.lemmas.List.{map-append, take_more, take_more_set}
-use Rattle.std.proofs.lemmas.List.Elements.{All-push, All-same, filter_more}
-use Rattle.std.proofs.lemmas.List.Quantifiers.{all_pairs_push}
-use Rattle.kpn_text.specs.Document.{Document}
-use Rattle.kpn_command_base.specs.declared.sources.EndKind.{EndKind}
-use Rattle.kpn_command_base.specs.declared.sources.NamedEnd.{NamedEnd}
-use Rattle.kpn_command_base.specs.Outputs.{FileWords}
-use Rattle.kpn_command_base.specs.Sources.{is_end, ends_named}
-use Rattle.kpn_command_base.specs.StreamRequest.{StreamRequest}
-use Rattle.kpn_command_base.proofs.Apart.{now}
-use Rattle.kpn_stream.specs.Ending.{end_numbers}
+use Rattle.kpn_command_stream.proofs.Common.{AllPairs, AllZip, filter, map-append, take_more, take_more_set, All-push, All-same, filter_more, all_pairs_push, Document, EndKind, NamedEnd, FileWords, is_end, ends_named, StreamRequest, now, end_numbers, SinkFault, EndPlace, Lost, names_standard, stream_words_of, name_for, AllPlaced, ArePlacesOfEnds}
 use Rattle.kpn_text_items.proofs.FileLemmas.{AllZip-push}
-use Rattle.kpn_stream.specs.declared.faults.SinkFault.{SinkFault}
 use Rattle.kpn_stream.specs.declared.faults.SinkFault.TheVariants.{Gone, NoSample, Write, NoMemory}
-use Rattle.kpn_command_stream.specs.declared.places.EndPlace.{EndPlace}
-use Rattle.kpn_command_stream.specs.declared.running.Lost.{Lost}
 use Rattle.kpn_stream_devices.specs.declared.outputs.SinkOutput.{SinkOutput}
 use Rattle.kpn_command_stream.specs.Command.{HandedOn, IsOutputFor, IsOutputOf, KeepsName, one_more, losses}
-use Rattle.kpn_command_stream.specs.Words.{names_standard, stream_words_of}
-use Rattle.kpn_command_stream.specs.EndPlaces.{name_for, AllPlaced, ArePlacesOfEnds}
 
 -- all places go by what the options name
 pub all_placed : (ends : EndKind) (d : Document) (names files words : List (List ℕ)) (named : List NamedEnd)

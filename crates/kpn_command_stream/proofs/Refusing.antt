@@ -1,25 +1,9 @@
 -- What the parts of the code refuse, as why a stream is not begun.
-use Rattle.std.proofs.Common.{◌≡◌, ◌∙◌, ℕ, ◌<◌, List, All, map, length, get_or, inl, inr, None, Ok, refl, sym, subst}
-use Rattle.kpn_text.specs.Document.{Document}
+use Rattle.kpn_command_stream.proofs.Common.{◌≡◌, ◌∙◌, ℕ, ◌<◌, List, All, map, length, get_or, inl, inr, None, Ok, refl, sym, subst, Document, Refusal, EndKind, NamedEnd, FileWords, IsRefusalOfOutputs, ends_named, file_in, is_end, name_in, StreamRequest, end_numbers, StreamRefusal, stream_words_of, AreWordsRefused, EndWords, IsDeviceRefusal, IsUnnamed, IsUnplaced, IsUnplacedBy, IsUnstreamed, OfCommon, end_words_of, end_words_in, name_for, Words, Sources, Sinks, SaysFormat}
 use Rattle.kpn_shelf.specs.Shelf.{Aliases}
-use Rattle.kpn_command_base.specs.declared.refusal.Refusal.{Refusal}
 use Rattle.kpn_command_base.specs.declared.refusal.Refusal.TheVariants as refusal
-use Rattle.kpn_command_base.specs.declared.sources.EndKind.{EndKind}
-use Rattle.kpn_command_base.specs.declared.sources.NamedEnd.{NamedEnd}
-use Rattle.kpn_command_base.specs.Outputs.{FileWords, IsRefusalOfOutputs}
-use Rattle.kpn_command_base.specs.Sources.{ends_named, file_in, is_end, name_in}
-use Rattle.kpn_command_base.specs.StreamRequest.{StreamRequest}
-use Rattle.kpn_stream.specs.Ending.{end_numbers}
-use Rattle.kpn_command_stream.specs.declared.refusal.StreamRefusal.{StreamRefusal}
 use Rattle.kpn_command_stream.specs.declared.refusal.StreamRefusal.TheVariants.{Common, Unnamed, SharedInput, FormatWord}
-use Rattle.kpn_command_stream.specs.Words.{stream_words_of}
-use Rattle.kpn_command_stream.specs.Causes.{AreWordsRefused, EndWords, IsDeviceRefusal, IsUnnamed, IsUnplaced, IsUnplacedBy, IsUnstreamed, OfCommon, end_words_of}
-use Rattle.kpn_command_stream.specs.Command.{end_words_in}
-use Rattle.kpn_command_stream.specs.EndPlaces.{name_for}
 use Rattle.kpn_text_names.specs.Names.{name_at}
-use Rattle.kpn_command_stream.specs.declared.command.Words.{Words}
-use Rattle.kpn_command_base.specs.declared.sources.EndKind.TheVariants.{Sources, Sinks}
-use Rattle.kpn_command_stream.specs.Formats.{SaysFormat}
 
 module _ (may_alias : Aliases) (request : StreamRequest) where
   -- an output may be written over an input or into another output

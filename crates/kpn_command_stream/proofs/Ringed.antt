@@ -1,16 +1,10 @@
 -- The rings of a book are those of its history.
-use Rattle.std.proofs.Common.{◌≡◌, ℕ, List, length, sym, ap, ◌∙◌, subst}
-use Rattle.kpn_net.specs.Tables.{Tables}
-use Rattle.kpn_history.specs.declared.event.Event.{Event}
+use Rattle.kpn_command_stream.proofs.Common.{◌≡◌, ℕ, List, length, sym, ap, ◌∙◌, subst, Tables, Event, AreStatesOf, Book, IsBook, state_at}
 use Rattle.kpn_history.specs.declared.state.State.{State}
 use Rattle.kpn_history.specs.Waiting.{waits_of}
 use Rattle.kpn_history.specs.Legal.{Legal}
 use Rattle.kpn_history.specs.Views.{IsStateOf}
-use Rattle.kpn_deadlock.specs.Among.{AreStatesOf}
 use Rattle.kpn_deadlock.specs.Told.{AreRings}
-use Rattle.kpn_book.specs.Book.{Book}
-use Rattle.kpn_book.specs.Kept.{IsBook}
-use Rattle.kpn_book.specs.Schedule.{state_at}
 use Rattle.kpn_book.proofs.Standing.{states_now}
 
 pub ringed : (b : Book) → IsBook b → (t : Tables) → t ≡ b.tables → (states : List State) → states ≡ b.schedule.states

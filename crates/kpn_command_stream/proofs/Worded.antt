@@ -1,22 +1,9 @@
 -- The words after `--format`, one more at a time, and as the request has them.
-use Rattle.std.proofs.Common.{◌≡◌, ◌≢◌, ◌<◌, ◌+◌, ℕ, suc, List, Bor, All, [], ◌∷◌, ◌++◌, map, length, length-append, length-take, get_or, take, refl, sym, subst, ap, ◌∙◌, Option, Some, None, inl, inr, arith}
+use Rattle.kpn_command_stream.proofs.Common.{◌≡◌, ◌≢◌, ◌<◌, ◌+◌, ℕ, suc, List, Bor, All, [], ◌∷◌, ◌++◌, map, length, length-append, length-take, get_or, take, refl, sym, subst, ap, ◌∙◌, Option, Some, None, inl, inr, arith, cases_lt, AllPairs, get_or-map, get_or-take, get_or_append_left, get_or_at, get_or_default, length-map, map-append, take_more, All-map, All-push, all_pairs_push, Document, NamedEnd, EndPlace, ArePlaced, HasFormat, name_for, name_in, file_in, IsNoFormat, NamesFormat, ItemFormat, AreForEnds, IsForEnd, SaysFormat, common_format, first_that, format_end, format_word, has_equals, named_format}
 use Rattle.std.specs.Prelude.{Bool, true, false, ◌&&◌, if◌then◌else◌, IfSome, codes, unwrap_or}
 use Rattle.std.specs.Option.{option_or}
 use Rattle.std.specs.Str.{bytes_eq}
-use Rattle.std.proofs.lemmas.Bool.{cases_lt}
-use Rattle.std.specs.List.{AllPairs}
-use Rattle.std.proofs.lemmas.List.{get_or-map, get_or-take, get_or_append_left, get_or_at, get_or_default, length-map, map-append, take_more}
-use Rattle.std.proofs.lemmas.List.Elements.{All-map, All-push}
-use Rattle.std.proofs.lemmas.List.Quantifiers.{all_pairs_push}
-use Rattle.kpn_text.specs.Document.{Document}
-use Rattle.kpn_command_base.specs.declared.sources.NamedEnd.{NamedEnd}
-use Rattle.kpn_command_stream.specs.declared.places.EndPlace.{EndPlace}
-use Rattle.kpn_command_stream.specs.EndPlaces.{ArePlaced, HasFormat, name_for}
-use Rattle.kpn_command_base.specs.Sources.{name_in, file_in}
-use Rattle.kpn_stream_devices.specs.Formats.{IsNoFormat, NamesFormat}
-use Rattle.kpn_stream_devices.specs.declared.formats.ItemFormat.{ItemFormat}
 use Rattle.kpn_stream_devices.specs.declared.formats.ItemFormat.TheVariants.{Lines}
-use Rattle.kpn_command_stream.specs.Formats.{AreForEnds, IsForEnd, SaysFormat, common_format, first_that, format_end, format_word, has_equals, named_format}
 
 -- one more word is for other ends than those before it
 pub pair_more : (R : Bor (List ℕ) → Bor (List ℕ) → Type 0) (words : List (Bor (List ℕ))) (i : ℕ) (word : Bor (List ℕ))

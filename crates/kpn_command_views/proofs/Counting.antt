@@ -1,21 +1,10 @@
 -- What one more event does to the figures of a history.
 use Rattle.std.proofs.Common.{◌≡◌, ◌≢◌, ℕ, ◌+◌, ◌-◌, ◌^◌, ◌<◌, ◌≤◌, max, Bool, true, false, ℤ, cond, nat_eq, eq-eqb, List, [], ◌∷◌, ◌++◌, length, take, set, get_or, replicate, count_by, Option, Some, None, refl, sym, ap, ◌∙◌, subst, inl, inr, arith, length-drop, length-append}
-use Rattle.std.specs.List.{flat_map}
-use Rattle.std.proofs.lemmas.Bool.{cases_lt, ne_eqb}
+use Rattle.kpn_command_views.proofs.Common.{flat_map, cases_lt, ne_eqb, take-append-le, get_or-set_same, get_or-set_other, length-set, length-replicate, get_or-replicate, length_push, length-take, take_more, take_all, sum_by_push, Tables, Event, Get, Put, WaitEmpty, WaitFull, Feed, Take, Grow, written_in, read_in, written_on, read_on, unread_on, is_growth_of, ChannelFigures, ProcessFigures, Figures, waits_for_item, waits_for_room, is_get_of, is_put_of, is_wait_empty_of, is_wait_full_of, unread_behind, IsMostUnread, CountsChannel, CountsProcess, CountChannels, CountProcesses, AreFigures, no_channel, no_process, channel_counts_then, with_most, channel_then, channel_total, channels_then, process_then, process_total, processes_then, changed_at}
 use Rattle.std.proofs.lemmas.Bool.Decides.{eqb_tells}
 use Rattle.std.proofs.Math.Seq.{take-length}
-use Rattle.std.proofs.lemmas.List.{take-append-le, get_or-set_same, get_or-set_other, length-set, length-replicate, get_or-replicate, length_push, length-take, take_more, take_all}
-use Rattle.std.proofs.lemmas.List.Sums.{sum_by_push}
-use Rattle.kpn_net.specs.Tables.{Tables}
-use Rattle.kpn_history.specs.declared.event.Event.{Event}
-use Rattle.kpn_history.specs.declared.event.Event.TheVariants.{Get, Put, WaitEmpty, WaitFull, Feed, Take, Grow}
 use Rattle.kpn_history.specs.Talks.{process_of, channel_of}
-use Rattle.kpn_history.specs.Channels.{written_in, read_in, written_on, read_on, unread_on, is_growth_of}
 use Rattle.kpn_history.proofs.Events.{flat_map-push}
-use Rattle.kpn_command_views.specs.declared.figures.ChannelFigures.{ChannelFigures}
-use Rattle.kpn_command_views.specs.declared.figures.ProcessFigures.{ProcessFigures}
-use Rattle.kpn_command_views.specs.declared.figures.Figures.{Figures}
-use Rattle.kpn_command_views.specs.Figures.{waits_for_item, waits_for_room, is_get_of, is_put_of, is_wait_empty_of, is_wait_full_of, unread_behind, IsMostUnread, CountsChannel, CountsProcess, CountChannels, CountProcesses, AreFigures, no_channel, no_process, channel_counts_then, with_most, channel_then, channel_total, channels_then, process_then, process_total, processes_then, changed_at}
 
 -- ---- lists
 

@@ -1,13 +1,6 @@
 -- A picture of few ticks has only small numbers. And what is drawn of a box, whose places are known.
-use Rattle.std.proofs.Common.{◌≡◌, ℕ, ℤ, ◌+◌, ◌-◌, ◌≤◌, Bool, true, false, nat_eq, if◌then◌else◌, List, [], ◌++◌, min, arith, refl, ap, subst, ◌∙◌}
-use Rattle.std.proofs.lemmas.Bool.{ne_eqb}
-use Rattle.std.proofs.Math.Nat.{min-le_right}
-use Rattle.kpn_command_base.proofs.PieceLemmas.{two_pieces, three_pieces}
-use Rattle.kpn_ticks.specs.Ticks.{Clocks, latest_of}
-use Rattle.kpn_command_views.specs.declared.boxes.Bar.{Bar}
+use Rattle.kpn_command_views.proofs.Common.{◌≡◌, ℕ, ℤ, ◌+◌, ◌-◌, ◌≤◌, Bool, true, false, nat_eq, if◌then◌else◌, List, [], ◌++◌, min, arith, refl, ap, subst, ◌∙◌, ne_eqb, min-le_right, two_pieces, three_pieces, Clocks, latest_of, Bar, Scale, tick_width, longest_below, scale_for, ticks_in, box_front, box_name, whole_box, shown_box, item_box, wait_box, last_wait_box, move_boxes, row_of_process}
 use Rattle.kpn_command_views.specs.declared.boxes.ProcessRow.{ProcessRow}
-use Rattle.kpn_command_views.specs.declared.scale.Scale.{Scale}
-use Rattle.kpn_command_views.specs.PictureText.{tick_width, longest_below, scale_for, ticks_in, box_front, box_name, whole_box, shown_box, item_box, wait_box, last_wait_box, move_boxes, row_of_process}
 use Rattle.kpn_command_views.specs.Drawable.{IsDrawable}
 
 either : (b : Bool) (x y most : ℕ) → x ≤ most → y ≤ most → (if b then x else y) ≤ most

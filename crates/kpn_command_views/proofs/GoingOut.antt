@@ -1,10 +1,7 @@
 -- A text that goes out while it is made.
-use Rattle.std.proofs.Common.{◌≡◌, ℕ, ◌+◌, ◌-◌, ◌≤◌, List, [], ◌++◌, length, take, drop, Option, refl, sym, ap, ◌∙◌, subst, append_assoc, drop_of_length-le, arith}
-use Rattle.std.specs.Io.KnownBytes.{Appends}
+use Rattle.kpn_command_views.proofs.Common.{◌≡◌, ℕ, ◌+◌, ◌-◌, ◌≤◌, List, [], ◌++◌, length, take, drop, Option, refl, sym, ap, ◌∙◌, subst, append_assoc, drop_of_length-le, arith, Appends, IsSentWhole, each_below, counter_line, read_lines, counter_lines}
 use Rattle.std.proofs.KnownBytes.{Appends-nil, Appends-trans}
 use Rattle.std.proofs.lemmas.List.{append-nil, take_all, length-drop}
-use Rattle.kpn_command_views.specs.Sent.{IsSentWhole}
-use Rattle.kpn_command_views.specs.TimelineText.{each_below, counter_line, read_lines, counter_lines}
 use Rattle.kpn_command_views.proofs.TimelineLines.{each_next}
 
 -- ---- what was sent

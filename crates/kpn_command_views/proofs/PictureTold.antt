@@ -1,18 +1,6 @@
 -- The picture of the events of a trace is that of its history. The two differ only in the capacities of growths, which
 -- the picture does not show.
-use Rattle.std.proofs.Common.{◌≡◌, ℕ, ◌+◌, max, true, List, [], ◌∷◌, ◌++◌, length, refl, sym, ap, ap₂, ◌∙◌}
-use Rattle.kpn_net.specs.declared.wait.Wait.{Wait}
-use Rattle.kpn_net.specs.Tables.{Tables}
-use Rattle.kpn_history.specs.declared.event.Event.{Event}
-use Rattle.kpn_history.specs.declared.event.Event.TheVariants.{Grow}
-use Rattle.kpn_history.specs.declared.stored.Version.{Version}
-use Rattle.kpn_history.specs.declared.stored.Version.TheVariants.{One, Two}
-use Rattle.kpn_text.specs.Document.{Document}
-use Rattle.kpn_audit.specs.Stored.{told, told_behind, history_of}
-use Rattle.kpn_ticks.specs.Ticks.{Clocks, clocks_with_event, start, clocks_after}
-use Rattle.kpn_ticks.proofs.Told.{same_after, history_clocks}
-use Rattle.kpn_command_views.specs.declared.scale.Scale.{Scale}
-use Rattle.kpn_command_views.specs.PictureText.{scale_for, ticks_in, event_boxes, all_event_boxes, last_boxes, box_count, all_box_count, last_counts, picture_head_text, grid_text, legend, picture, picture_size}
+use Rattle.kpn_command_views.proofs.Common.{◌≡◌, ℕ, ◌+◌, max, true, List, [], ◌∷◌, ◌++◌, length, refl, sym, ap, ap₂, ◌∙◌, Wait, Tables, Event, Grow, Version, One, Two, Document, told, told_behind, history_of, Clocks, clocks_with_event, start, clocks_after, same_after, history_clocks, Scale, scale_for, ticks_in, event_boxes, all_event_boxes, last_boxes, box_count, all_box_count, last_counts, picture_head_text, grid_text, legend, picture, picture_size}
 
 same_boxes : (names : List (List ℕ)) (t told_of : Tables) (s : Scale) (k : Clocks) (B : List Event) (event : Event)
     → event_boxes names t s k (told told_of B event) ≡ event_boxes names t s k event

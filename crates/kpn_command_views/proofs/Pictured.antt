@@ -1,21 +1,11 @@
 -- What the code has made is the picture, or the reason why there is none.
-use Rattle.std.proofs.Common.{◌≡◌, ◌+◌, ◌≤◌, ◌<◌, ◌^◌, ℕ, true, List, length, ap, ap₂, subst, ◌∙◌, arith}
-use Rattle.std.proofs.Math.Nat.{max-le}
-use Rattle.kpn_net.specs.declared.wait.Wait.{Wait}
-use Rattle.kpn_net.specs.Tables.{Tables}
+use Rattle.kpn_command_views.proofs.Common.{◌≡◌, ◌+◌, ◌≤◌, ◌<◌, ◌^◌, ℕ, true, List, length, ap, ap₂, subst, ◌∙◌, arith, max-le, Wait, Tables, sizes, Event, Document, Clocks, start, clocks_after, Scale, scale_for, scale_of, ticks_in, all_box_count, last_counts, boxes_in, picture_with, IsPicture, IsRefusalOfPicture, IsNoPicture, size_for}
 use Rattle.kpn_net.specs.Faults.{IsNetwork}
-use Rattle.kpn_net.proofs.Networks.{sizes}
-use Rattle.kpn_history.specs.declared.event.Event.{Event}
-use Rattle.kpn_text.specs.Document.{Document}
 use Rattle.kpn_command_base.specs.declared.refusal.Refusal.{Refusal}
 use Rattle.kpn_command_base.specs.declared.refusal.Refusal.TheVariants as refusal
 use Rattle.kpn_shelf.specs.Shelf.{Loads}
 use Rattle.kpn_command_base.specs.declared.auditing.Audited.{Audited}
 use Rattle.kpn_command_base.specs.Audited.{IsAudited, IsRefusalOfAudit}
-use Rattle.kpn_ticks.specs.Ticks.{Clocks, start, clocks_after}
-use Rattle.kpn_command_views.specs.declared.scale.Scale.{Scale}
-use Rattle.kpn_command_views.specs.PictureText.{scale_for, scale_of, ticks_in, all_box_count, last_counts, boxes_in, picture_with}
-use Rattle.kpn_command_views.specs.PictureAnswers.{IsPicture, IsRefusalOfPicture, IsNoPicture, size_for}
 
 module _ (d : Document) (t : Tables) (first last : ℕ) (waits : List Wait) (events : List Event) (s : Scale)
     (processes : ℕ) (k : Clocks) (scaled : s ≡ scale_for d.names.instances processes first last k.last)

@@ -1,27 +1,8 @@
 -- The figures of the events of a trace are those of its history. The two differ only in the capacities of growths, and
 -- no figure depends on those.
-use Rattle.std.proofs.Common.{◌≡◌, ℕ, ℤ, ◌≤◌, Bool, true, false, cond, List, [], ◌∷◌, ◌++◌, length, map, take, drop, count_by, sum, refl, sym, ap, ap₂, ◌∙◌, subst}
-use Rattle.std.specs.List.{flat_map}
-use Rattle.std.proofs.lemmas.List.Sums.{sum-map}
-use Rattle.std.proofs.lemmas.List.{take-map, length-map}
-use Rattle.std.specs.declared.alloc.Global.{Global}
-use Rattle.kpn_net.specs.Tables.{Tables}
-use Rattle.kpn_history.specs.declared.event.Event.{Event}
-use Rattle.kpn_history.specs.declared.event.Event.TheVariants.{Grow}
-use Rattle.kpn_history.specs.declared.stored.Version.{Version}
-use Rattle.kpn_history.specs.declared.stored.Version.TheVariants.{One, Two}
-use Rattle.kpn_history.specs.declared.stored.Trace.{Trace}
-use Rattle.kpn_history.specs.Channels.{written_in, read_in, written_on, read_on, is_growth_of}
-use Rattle.kpn_audit.specs.Stored.{told, told_behind, history_of, tables_for, history_in}
-use Rattle.kpn_command_views.specs.declared.figures.ChannelFigures.{ChannelFigures}
-use Rattle.kpn_command_views.specs.declared.figures.ProcessFigures.{ProcessFigures}
-use Rattle.kpn_command_views.specs.declared.figures.Figures.{Figures}
-use Rattle.kpn_ticks.specs.Ticks.{Clocks, clocks_after}
+use Rattle.kpn_command_views.proofs.Common.{◌≡◌, ℕ, ℤ, ◌≤◌, Bool, true, false, cond, List, [], ◌∷◌, ◌++◌, length, map, take, drop, count_by, sum, refl, sym, ap, ap₂, ◌∙◌, subst, flat_map, sum-map, take-map, length-map, Global, Tables, Event, Grow, Version, One, Two, Trace, written_in, read_in, written_on, read_on, is_growth_of, told, told_behind, history_of, tables_for, history_in, ChannelFigures, ProcessFigures, Figures, Clocks, clocks_after, shown, is_move, AreTimes, waits_for_item, waits_for_room, is_get_of, is_put_of, is_wait_empty_of, is_wait_full_of, unread_behind, IsMostUnread, CountsChannel, CountsProcess, AreFigures}
 use Rattle.kpn_ticks.specs.Chain.{shares_of}
-use Rattle.kpn_ticks.specs.Shown.{shown}
 use Rattle.kpn_command_views.specs.declared.times.HistoryTimes.{HistoryTimes}
-use Rattle.kpn_command_views.specs.HistoryTimes.{is_move, AreTimes}
-use Rattle.kpn_command_views.specs.Figures.{waits_for_item, waits_for_room, is_get_of, is_put_of, is_wait_empty_of, is_wait_full_of, unread_behind, IsMostUnread, CountsChannel, CountsProcess, AreFigures}
 
 -- ---- events without the capacities of growths
 

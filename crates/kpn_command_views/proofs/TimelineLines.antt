@@ -1,14 +1,9 @@
 -- Texts that grow line by line.
-use Rattle.std.proofs.Common.{◌≡◌, ℕ, ◌+◌, ◌-◌, ◌<◌, ◌≤◌, List, [], ◌∷◌, ◌++◌, length, map, take, drop, get_or, sym, ap, ◌∙◌, refl, true, append_assoc, arith}
-use Rattle.std.specs.List.{concat, fold, range_with_len}
+use Rattle.kpn_command_views.proofs.Common.{◌≡◌, ℕ, ◌+◌, ◌-◌, ◌<◌, ◌≤◌, List, [], ◌∷◌, ◌++◌, length, map, take, drop, get_or, sym, ap, ◌∙◌, refl, true, append_assoc, arith, concat, fold, range_with_len, Tables, Event, Clocks, clocks_with_event, start, clocks_after, each_below, event_lines, all_event_lines, counter_line, read_lines, counter_lines}
 use Rattle.std.proofs.lemmas.List.{append-nil, drop_more, drop-drop, take_all, take_more, length-drop}
 use Rattle.std.proofs.lemmas.List.Folds.{concat-append}
 use Rattle.std.proofs.lemmas.List.FromFn.{map-range_with_len_more}
-use Rattle.kpn_net.specs.Tables.{Tables}
-use Rattle.kpn_history.specs.declared.event.Event.{Event}
-use Rattle.kpn_ticks.specs.Ticks.{Clocks, clocks_with_event, start, clocks_after}
 use Rattle.kpn_ticks.specs.Held.{reads_before}
-use Rattle.kpn_command_views.specs.TimelineText.{each_below, event_lines, all_event_lines, counter_line, read_lines, counter_lines}
 
 -- the lines of one number more
 pub each_next : (n : ℕ) (line : ℕ → List ℕ) → each_below (n + 1) line ≡ each_below n line ++ line n

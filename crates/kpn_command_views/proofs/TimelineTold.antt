@@ -1,20 +1,6 @@
 -- The timeline of the events of a trace is that of its history. The two differ only in the capacities of growths, which
 -- no line shows.
-use Rattle.std.proofs.Common.{◌≡◌, ℕ, true, List, [], ◌∷◌, ◌++◌, length, codes, refl, sym, ap, ap₂, ◌∙◌}
-use Rattle.kpn_text_names.specs.Names.{name_at}
-use Rattle.std.specs.declared.alloc.Global.{Global}
-use Rattle.kpn_net.specs.declared.wait.Wait.{Wait}
-use Rattle.kpn_net.specs.Tables.{Tables}
-use Rattle.kpn_history.specs.declared.event.Event.{Event}
-use Rattle.kpn_history.specs.declared.event.Event.TheVariants.{Grow}
-use Rattle.kpn_history.specs.declared.stored.Version.{Version}
-use Rattle.kpn_history.specs.declared.stored.Version.TheVariants.{One, Two}
-use Rattle.kpn_history.specs.declared.stored.Trace.{Trace}
-use Rattle.kpn_text.specs.Document.{Document}
-use Rattle.kpn_audit.specs.Stored.{told, told_behind, history_of, tables_for, history_in}
-use Rattle.kpn_ticks.specs.Ticks.{Clocks, clocks_with_event, start}
-use Rattle.kpn_ticks.proofs.Told.{same_after, history_clocks}
-use Rattle.kpn_command_views.specs.TimelineText.{timeline_head, track_line, each_below, event_lines, all_event_lines, last_waits, channel_counters, timeline}
+use Rattle.kpn_command_views.proofs.Common.{◌≡◌, ℕ, true, List, [], ◌∷◌, ◌++◌, length, codes, refl, sym, ap, ap₂, ◌∙◌, name_at, Global, Wait, Tables, Event, Grow, Version, One, Two, Trace, Document, told, told_behind, history_of, tables_for, history_in, Clocks, clocks_with_event, start, same_after, history_clocks, timeline_head, track_line, each_below, event_lines, all_event_lines, last_waits, channel_counters, timeline}
 
 same_lines : (names : List (List ℕ)) (t told_of : Tables) (s : Clocks) (B : List Event) (event : Event)
     → event_lines names t s (told told_of B event) ≡ event_lines names t s event

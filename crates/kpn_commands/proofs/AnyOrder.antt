@@ -1,14 +1,7 @@
 -- What a run in any order comes to under fewer commits, unless these stop it.
-use Rattle.std.proofs.Common.{◌≡◌, ℕ, ◌≤◌, ℤ, List, Option, Some, None, refl, arith}
-use Rattle.kpn_net.specs.Tables.{Tables}
-use Rattle.kpn_history.specs.declared.event.Event.{Event}
-use Rattle.kpn_book.specs.declared.outcome.Limits.{Limits}
+use Rattle.kpn_commands.proofs.Common.{◌≡◌, ℕ, ◌≤◌, ℤ, List, Option, Some, None, refl, arith, Tables, Event, Limits, Ended, Clogged, Jammed, Enough, Stopped, Report, events_of, IsReport, commits_in_any_order, limits_in_any_order}
 use Rattle.kpn_book.specs.declared.outcome.Outcome.{Outcome}
-use Rattle.kpn_book.specs.declared.outcome.Outcome.TheVariants.{Ended, Clogged, Jammed, Enough, Stopped}
-use Rattle.kpn_book.specs.declared.report.Report.{Report}
 use Rattle.kpn_book.specs.Outcomes.{IsOutcome}
-use Rattle.kpn_book.specs.Reports.{events_of, IsReport}
-use Rattle.kpn_commands.specs.Limits.{commits_in_any_order, limits_in_any_order}
 
 module _ (t : Tables) (H : List Event) (commits processes : ℕ) (limits : Limits) where
   same_outcome : (outcome : Outcome) → (outcome ≡ Stopped → ⊥)

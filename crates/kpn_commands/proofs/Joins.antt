@@ -1,9 +1,7 @@
 -- Parts that are loaded one after the other, and what their audits show of the whole if they are joined.
-use Rattle.std.proofs.Common.{◌≡◌, ◌↔◌, ℕ, suc, ◌+◌, ◌*◌, ◌/◌, codes, Result, IfErr, ◌<◌, ◌≤◌, ◌⊎◌, ℤ, Bool, true, false, ◌&&◌, eqb, List, [], ◌∷◌, ◌++◌, length, map, take, get_or, Option, Some, None, refl, sym, ap, ◌∙◌, subst, inl, inr, arith}
+use Rattle.kpn_commands.proofs.Common.{◌≡◌, ◌↔◌, ℕ, suc, ◌+◌, ◌*◌, ◌/◌, codes, Result, IfErr, ◌<◌, ◌≤◌, ◌⊎◌, ℤ, Bool, true, false, ◌&&◌, eqb, List, [], ◌∷◌, ◌++◌, length, map, take, get_or, Option, Some, None, refl, sym, ap, ◌∙◌, subst, inl, inr, arith, IfErr-weaker, list_all, range_with_len, Tables, IsNetwork, lists_of, Event, Part, whole_channel, empty_part, part_at, IsCut, IsHome, AreHomes, history_at, Loads, TellsOnly, lines_from, part_file, trace_file, HasEvents, AreRead, capacity_at, IsFlawOf, TellsOfFlaw, IsPartRefused, IsRefusalOfPart, AreAudited, AreLoaded, LoadsPart, HasTables, journal_in, audited_journal, audited_capacity, AreIn, has_all, is_settled, is_part_at_rest}
 use Rattle.std.specs.Prelude.{IfSome, IfNone, is_some}
 use Rattle.std.specs.Borrow.{Bor}
-use Rattle.std.proofs.lemmas.Result.{IfErr-weaker}
-use Rattle.std.specs.List.{list_all, range_with_len}
 use Rattle.std.specs.Option.{option_map_or}
 use Rattle.std.specs.declared.alloc.Global.{Global}
 use Rattle.std.proofs.lemmas.Bool.{cases_eq, cases_lt, cases_Bool, both_ways, eqb-true, eq-eqb}
@@ -16,10 +14,6 @@ use Rattle.std.proofs.Math.Seq.{get_or-append_seam}
 use Rattle.kpn_lang.proofs.Prefixes.{same_from_prefix}
 use Rattle.kpn_net.specs.declared.wait.Wait.{Wait}
 use Rattle.kpn_net.specs.declared.wait.Wait.TheVariants.{Nobody, Empty}
-use Rattle.kpn_net.specs.Tables.{Tables}
-use Rattle.kpn_net.specs.Faults.{IsNetwork}
-use Rattle.kpn_net.specs.Iteration.{lists_of}
-use Rattle.kpn_history.specs.declared.event.Event.{Event}
 use Rattle.kpn_history.specs.Channels.{written_on, capacity_after}
 use Rattle.kpn_history.specs.Legal.{Legal}
 use Rattle.kpn_history.proofs.Legality.{Legal-nil}
@@ -29,24 +23,16 @@ use Rattle.kpn_audit.specs.declared.findings.Audit.{Audit}
 use Rattle.kpn_audit.specs.Audit.{IsAudit}
 use Rattle.kpn_parts.specs.declared.order.PartEvent.{PartEvent}
 use Rattle.kpn_parts.specs.declared.link.ChannelHome.{ChannelHome}
-use Rattle.kpn_parts.specs.Cut.{Part, whole_channel, empty_part, part_at, IsCut}
-use Rattle.kpn_parts.specs.Homes.{IsHome, AreHomes}
 use Rattle.kpn_parts.specs.Joined.{events_of_part, whole_history, HasAll, IsJoined, AreAtRest}
-use Rattle.kpn_parts.specs.Links.{history_at}
 use Rattle.kpn_parts.proofs.Cuts.{has_part}
 use Rattle.kpn_parts.proofs.Whole.{journal_same, journal_begins}
 use Rattle.kpn_parts.proofs.Rest.{waited_there}
 use Rattle.kpn_text.specs.Document.{Document}
-use Rattle.kpn_shelf.specs.Shelf.{Loads}
 use Rattle.kpn_command_base.specs.declared.conclusion.Conclusion.{Conclusion}
 use Rattle.kpn_command_base.specs.declared.refusal.Refusal.{Refusal}
-use Rattle.kpn_command_base.specs.Conclusion.{TellsOnly}
-use Rattle.kpn_command_base.specs.ListText.{lines_from}
 use Rattle.kpn_command_base.specs.AuditText.{channel_line, exact_line}
 use Rattle.kpn_command_base.specs.Description.{IsDescribed}
 use Rattle.kpn_commands.specs.declared.join.LoadedParts.{LoadedParts}
-use Rattle.kpn_commands.specs.Join.{part_file, trace_file, HasEvents, AreRead, capacity_at, IsFlawOf, TellsOfFlaw, IsPartRefused, IsRefusalOfPart}
-use Rattle.kpn_commands.specs.JoinParts.{AreAudited, AreLoaded, LoadsPart, HasTables, journal_in, audited_journal, audited_capacity, AreIn, has_all, is_settled, is_part_at_rest}
 
 -- ---- lists
 

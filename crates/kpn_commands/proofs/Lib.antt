@@ -1,3 +1,4 @@
+pub mod Common
 pub mod Plain
 pub mod Pauses
 pub mod AnyOrder

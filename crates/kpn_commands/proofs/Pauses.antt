@@ -1,21 +1,9 @@
 -- How many steps the built-in processes make on a list of items.
-use Rattle.std.proofs.Common.{◌≡◌, ℕ, zero, suc, ◌+◌, ◌*◌, ◌≤◌, ℤ, List, [], ◌∷◌, length, Result, Ok, Err, Some, refl, ap, sym, arith, slice_set}
-use Rattle.kpn_lang.specs.declared.value.Fault.{Fault}
-use Rattle.kpn_lang.specs.declared.talk.Said.{Said}
-use Rattle.kpn_lang.specs.declared.talk.Said.TheVariants.{Got, Put}
-use Rattle.kpn_lang.specs.Syntax.{Read}
-use Rattle.kpn_lang.specs.Run.{Lists, list_at}
-use Rattle.kpn_lang.specs.Alone.{start_of}
+use Rattle.kpn_commands.proofs.Common.{◌≡◌, ℕ, zero, suc, ◌+◌, ◌*◌, ◌≤◌, ℤ, List, [], ◌∷◌, length, Result, Ok, Err, Some, refl, ap, sym, arith, slice_set, Fault, Said, Got, Put, Read, Lists, list_at, start_of, Done, Faulted, Starved, Paused, Speaks, Walks, BuiltIn, Copy, Double, Sum, built_in_program, IsNeverPaused}
 use Rattle.kpn_step.specs.declared.stop.Stop.{Stop}
 use Rattle.kpn_step.specs.declared.stop.Stop.TheVariants.{WantWrite}
-use Rattle.kpn_step.specs.declared.stop.AloneStop.TheVariants.{Done, Faulted, Starved, Paused}
 use Rattle.kpn_step.specs.Frame.{Frame}
 use Rattle.kpn_step.specs.Step.{Stops, Goes, step_of, tested, written, Steps}
-use Rattle.kpn_step.specs.Walk.{Speaks, Walks}
-use Rattle.kpn_commands.specs.declared.built_in.BuiltIn.{BuiltIn}
-use Rattle.kpn_commands.specs.declared.built_in.BuiltIn.TheVariants.{Copy, Double, Sum}
-use Rattle.kpn_commands.specs.BuiltIn.{built_in_program}
-use Rattle.kpn_commands.specs.Laws.{IsNeverPaused}
 
 -- a frame in the body, before the loop's test
 abbrev outside : List ℤ → Frame

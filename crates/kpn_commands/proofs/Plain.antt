@@ -1,22 +1,11 @@
 -- The runs of the built-in processes on a list of items.
-use Rattle.std.proofs.Common.{◌≡◌, ◌≢◌, ℕ, zero, suc, ℤ, pos, List, [], ◌∷◌, Result, Ok, Err, ◌*ℤ◌, ◌+ℤ◌, refl, ap, sym, ◌∙◌}
-use Rattle.kpn_lang.specs.declared.value.Fault.{Fault}
-use Rattle.kpn_lang.specs.declared.talk.Said.{Said}
-use Rattle.kpn_lang.specs.declared.talk.Said.TheVariants.{Got, Put}
+use Rattle.kpn_commands.proofs.Common.{◌≡◌, ◌≢◌, ℕ, zero, suc, ℤ, pos, List, [], ◌∷◌, Result, Ok, Err, ◌*ℤ◌, ◌+ℤ◌, refl, ap, sym, ◌∙◌, Fault, Said, Got, Put, Ran, Lists, run, turns, ends, says, with_value, Num, put_at, alone, ComesTo, Done, Faulted, Starved, Paused, BuiltIn, Copy, Double, Sum, built_in_program, PutsPlainly}
 use Rattle.kpn_lang.specs.declared.talk.Ending.{Ending}
 use Rattle.kpn_lang.specs.declared.talk.Ending.TheVariants as ending
-use Rattle.kpn_lang.specs.Run.{Ran, Lists, run, turns, ends, says, with_value}
 use Rattle.kpn_lang.specs.Tree.{tree_to}
 use Rattle.kpn_lang.specs.Value.{in_range}
-use Rattle.kpn_lang.specs.Syntax.{Num}
-use Rattle.kpn_lang.specs.Alone.{put_at, alone, ComesTo}
 use Rattle.kpn_step.specs.declared.stop.AloneStop.{AloneStop}
-use Rattle.kpn_step.specs.declared.stop.AloneStop.TheVariants.{Done, Faulted, Starved, Paused}
-use Rattle.kpn_commands.specs.declared.built_in.BuiltIn.{BuiltIn}
-use Rattle.kpn_commands.specs.declared.built_in.BuiltIn.TheVariants.{Copy, Double, Sum}
-use Rattle.kpn_commands.specs.BuiltIn.{built_in_program}
 use Rattle.kpn_commands.specs.Plain.{either, values, alone_stop_of, TalksPlainly}
-use Rattle.kpn_commands.specs.Laws.{PutsPlainly}
 
 -- the end of a run that a stop stands for
 abbrev pub ending_of : AloneStop → Ending

@@ -1,15 +1,9 @@
 -- What holds of the parts that a run is handed holds of the inputs and of the request.
 use Rattle.std.proofs.Common.{◌≡◌, ◌∙◌, ℕ, ℤ, List, Option, Some, None, is_some, subst}
-use Rattle.kpn_net.specs.Tables.{Tables}
-use Rattle.kpn_book.specs.declared.outcome.Limits.{Limits}
-use Rattle.kpn_book.specs.declared.report.Report.{Report}
-use Rattle.kpn_book.specs.Reports.{IsReport}
-use Rattle.kpn_shelf.specs.Shelf.{Loads}
+use Rattle.kpn_commands.proofs.Common.{Tables, Limits, Report, IsReport, Loads, Reported, run_limits_of}
 use Rattle.kpn_command_base.specs.RunRequest.{RunRequest}
 use Rattle.kpn_command_base.specs.Inputs.{AreInputs}
 use Rattle.kpn_command_base.specs.Outputs.{AreSinksNamed}
-use Rattle.kpn_commands.specs.declared.reporting.Reported.{Reported}
-use Rattle.kpn_commands.specs.Limits.{run_limits_of}
 use Rattle.kpn_commands.specs.Reported.{IsRunReported, RanHere}
 use Rattle.kpn_commands.specs.Run.{IsOfLegal}
 

@@ -1,10 +1,7 @@
 -- A channel that is not there has no process at its ends.
-use Rattle.std.proofs.Common.{◌≡◌, ℕ, ◌≤◌, length, None, refl, arith}
+use Rattle.kpn_cycle.proofs.Common.{◌≡◌, ℕ, ◌≤◌, length, None, refl, arith, Tables, writer_of, reader_of, IsNetwork, process_at}
 use Rattle.kpn_net.specs.declared.tables.End.{End}
 use Rattle.kpn_net.specs.declared.tables.End.TheVariants.{Process, Source, Sink}
-use Rattle.kpn_net.specs.Tables.{Tables, writer_of, reader_of}
-use Rattle.kpn_net.specs.Faults.{IsNetwork}
-use Rattle.kpn_net.specs.Waits.{process_at}
 use Rattle.kpn_net.proofs.Networks.{Writes-writer_of, Reads-reader_of, Writes-below, Reads-below}
 
 pub no_writer : (t : Tables) → IsNetwork t → (c : ℕ) → length t.channels ≤ c → None ≡ process_at (writer_of t c)

@@ -1,3 +1,4 @@
+pub mod Common
 pub mod Scans
 pub mod Walks
 pub mod Ends

@@ -1,19 +1,8 @@
 -- What a scan of all processes finds, from what a search finds of the cycle through each.
-use Rattle.std.proofs.Common.{◌≡◌, ◌↔◌, ℕ, ◌+◌, ◌<◌, ◌≤◌, List, ◌∷◌, length, ap, subst, inl, inr, arith}
-use Rattle.std.specs.Prelude.{Contains}
+use Rattle.kpn_cycle.proofs.Common.{◌≡◌, ◌↔◌, ℕ, ◌+◌, ◌<◌, ◌≤◌, List, ◌∷◌, length, ap, subst, inl, inr, arith, Contains, Wait, NoCycle, AllEmpty, Full, Tables, IsNetwork, IsOwnWait, IsCycle, full_channels, IsSmallestOfCycle, Finds, Contains-first, cycle_below, smallest_among, written_below, read_below, full_cycle_unique, finding_unique, full_from_member, IsBelowLimit, ScanFinds, IsOnChannelBelow}
 use Rattle.std.proofs.lemmas.Bool.{cases_lt}
-use Rattle.kpn_net.specs.declared.wait.Wait.{Wait}
 use Rattle.kpn_net.specs.declared.wait.Wait.TheVariants as wait
 use Rattle.kpn_net.specs.declared.found.Found.{Found}
-use Rattle.kpn_net.specs.declared.found.Found.TheVariants.{NoCycle, AllEmpty, Full}
-use Rattle.kpn_net.specs.Tables.{Tables}
-use Rattle.kpn_net.specs.Faults.{IsNetwork}
-use Rattle.kpn_net.specs.Waits.{IsOwnWait, IsCycle, full_channels}
-use Rattle.kpn_net.specs.Finding.{IsSmallestOfCycle, Finds}
-use Rattle.kpn_net.proofs.Cycles.{Contains-first, cycle_below, smallest_among}
-use Rattle.kpn_net.proofs.Findings.{written_below, read_below, full_cycle_unique, finding_unique, full_from_member}
-use Rattle.kpn_cycle.specs.Scan.{IsBelowLimit, ScanFinds}
-use Rattle.kpn_cycle.specs.WalkSoFar.{IsOnChannelBelow}
 
 -- a wait of a process is on a channel of the network
 pub on_channel : (t : Tables) → IsNetwork t → (p : ℕ) (w : Wait) → IsOwnWait t p w

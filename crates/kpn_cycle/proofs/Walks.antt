@@ -1,18 +1,9 @@
 -- The walk from a process along the waits. If there is a cycle through the process, the walk goes along it.
-use Rattle.std.proofs.Common.{◌≡◌, ◌≢◌, ℕ, ◌+◌, ◌≤◌, List, [], ◌∷◌, ◌++◌, length, Option, Some, None, refl, sym, ap, ◌∙◌, subst, inl, inr, arith, length-append, append_assoc}
-use Rattle.std.specs.Prelude.{Contains}
+use Rattle.kpn_cycle.proofs.Common.{◌≡◌, ◌≢◌, ℕ, ◌+◌, ◌≤◌, List, [], ◌∷◌, ◌++◌, length, Option, Some, None, refl, sym, ap, ◌∙◌, subst, inl, inr, arith, length-append, append_assoc, Contains, cons_option, range_with_len, Wait, Tables, wait_at, awaited, full_channel, WaitsFor, WaitInTurn, IsCycle, full_channels, FindsSmallest, NoCycle, Finds, found_on, Contains-none, Contains-cases, cycle_from, cycle_short, waits_for_one}
 use Rattle.std.specs.Option.{option_to_list}
-use Rattle.std.specs.List.{cons_option, range_with_len}
 use Rattle.std.proofs.lemmas.List.{map-id}
 use Rattle.std.proofs.lemmas.List.FromFn.{map-range_with_len_more}
 use Rattle.std.proofs.lemmas.List.Elements.{filter_map-append}
-use Rattle.kpn_net.specs.declared.wait.Wait.{Wait}
-use Rattle.kpn_net.specs.Tables.{Tables}
-use Rattle.kpn_net.specs.Waits.{wait_at, awaited, full_channel, WaitsFor, WaitInTurn, IsCycle, full_channels, FindsSmallest}
-use Rattle.kpn_net.specs.declared.found.Found.TheVariants.{NoCycle}
-use Rattle.kpn_net.specs.Finding.{Finds}
-use Rattle.kpn_cycle.specs.WalkSoFar.{found_on}
-use Rattle.kpn_net.proofs.Cycles.{Contains-none, Contains-cases, cycle_from, cycle_short, waits_for_one}
 
 -- the cycle through p, while a walk from p is at a process: it is what was walked, this process, and a rest that leads
 -- back to p

@@ -1,29 +1,17 @@
 -- A ring is final. No member has an event, since it is blocked. No event of another puts an item on the channel that a
 -- member waits on, since the next member writes it.
-use Rattle.std.specs.Prelude.{Contains}
-use Rattle.std.proofs.Common.{◌≡◌, ◌⊎◌, ℕ, false, cond, List, [], ◌∷◌, ◌++◌, Some, refl, sym, ap, ◌∙◌, subst, inl, inr, append_assoc}
-use Rattle.std.proofs.lemmas.Bool.{false_from_ne_true}
+use Rattle.kpn_deadlock.proofs.Common.{Contains, ◌≡◌, ◌⊎◌, ℕ, false, cond, List, [], ◌∷◌, ◌++◌, Some, refl, sym, ap, ◌∙◌, subst, inl, inr, append_assoc, false_from_ne_true, Wait, Nobody, Empty, Tables, writer_of, IsNetwork, wait_at, process_at, awaited, WaitsFor, WaitInTurn, Contains-first, Contains-later, Contains-cases, Contains-none, cycle_below, Event, wait_of, waits_of, Legal, IsRing}
 use Rattle.kpn_lang.proofs.Prefixes.{IsPrefix-append}
-use Rattle.kpn_net.specs.declared.wait.Wait.{Wait}
-use Rattle.kpn_net.specs.declared.wait.Wait.TheVariants.{Nobody, Empty}
 use Rattle.kpn_net.specs.declared.tables.End.TheVariants.{Process, Source}
-use Rattle.kpn_net.specs.Tables.{Tables, writer_of}
-use Rattle.kpn_net.specs.Faults.{IsNetwork}
-use Rattle.kpn_net.specs.Waits.{wait_at, process_at, awaited, WaitsFor, WaitInTurn}
-use Rattle.kpn_net.proofs.Cycles.{Contains-first, Contains-later, Contains-cases, Contains-none, cycle_below}
-use Rattle.kpn_history.specs.declared.event.Event.{Event}
 use Rattle.kpn_history.specs.Talks.{is_of}
-use Rattle.kpn_history.specs.Waiting.{wait_of, waits_of}
 use Rattle.kpn_history.specs.WaitsAfter.{wait_made}
 use Rattle.kpn_history.specs.Waking.{wakes_reader, wait_then}
-use Rattle.kpn_history.specs.Legal.{Legal}
 use Rattle.kpn_history.specs.Complete.{PutsNoMore, IsFinished}
 use Rattle.kpn_history.proofs.Legality.{can_go, Legal-prefix, onward}
 use Rattle.kpn_history.proofs.CompleteStays.{no_item_comes}
 use Rattle.kpn_history.proofs.OwedSets.{process_of_end}
 use Rattle.kpn_history.proofs.EarlierWaits.{wait_at-waits_of}
 use Rattle.kpn_history.proofs.Waking.{wait_of-then}
-use Rattle.kpn_deadlock.specs.Ring.{IsRing}
 
 -- ---- the next member
 

@@ -1,14 +1,7 @@
 -- There is a ring if and only if some are told: a ring is also one from its member of least number on.
-use Rattle.std.specs.Prelude.{Contains}
-use Rattle.std.proofs.Common.{◌≡◌, ◌↔◌, ℕ, ◌<◌, ◌≤◌, true, List, [], ◌∷◌, length, ltb-true, lt-ltb, refl, sym, ap, ◌∙◌, subst, inl, inr, arith}
+use Rattle.kpn_deadlock.proofs.Common.{Contains, ◌≡◌, ◌↔◌, ℕ, ◌<◌, ◌≤◌, true, List, [], ◌∷◌, length, ltb-true, lt-ltb, refl, sym, ap, ◌∙◌, subst, inl, inr, arith, cases_lt, Wait, Tables, Contains-first, Contains-later, Contains-cases, Contains-none, rotated, IsRing, HasRing, IsRingFrom, AreRings, are_some}
 use Rattle.std.specs.List.Sorted.{IsPermutation}
-use Rattle.std.proofs.lemmas.Bool.{cases_lt}
 use Rattle.std.proofs.lemmas.List.Sorted.{IsPermutation-sym, Contains-permutation}
-use Rattle.kpn_net.specs.declared.wait.Wait.{Wait}
-use Rattle.kpn_net.specs.Tables.{Tables}
-use Rattle.kpn_net.proofs.Cycles.{Contains-first, Contains-later, Contains-cases, Contains-none, rotated}
-use Rattle.kpn_deadlock.specs.Ring.{IsRing, HasRing}
-use Rattle.kpn_deadlock.specs.Told.{IsRingFrom, AreRings, are_some}
 
 -- a member of least number
 record LeastOf (members : List ℕ) : Type 0 where

@@ -1,3 +1,4 @@
+pub mod Common
 pub mod Final
 pub mod Searching
 pub mod Telling

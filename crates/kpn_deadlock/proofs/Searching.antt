@@ -1,14 +1,6 @@
 -- What the walk from a process finds, and what all walks tell together.
-use Rattle.std.specs.Prelude.{Contains, slice_get}
-use Rattle.std.proofs.Common.{◌≡◌, ◌≢◌, ◌⊎◌, ℕ, zero, suc, ◌+◌, ◌<◌, ◌≤◌, List, [], ◌∷◌, ◌++◌, length, Option, Some, None, refl, sym, ap, ◌∙◌, subst, inl, inr, arith, length-append, append_assoc}
-use Rattle.std.proofs.lemmas.Bool.{cases_lt}
-use Rattle.std.proofs.lemmas.List.Elements.{Contains-append_left, Contains-append_right, Contains-push_cases}
-use Rattle.kpn_net.specs.declared.wait.Wait.{Wait}
-use Rattle.kpn_net.specs.Tables.{Tables}
-use Rattle.kpn_net.specs.Waits.{wait_at, awaited, WaitsFor, WaitInTurn, IsCycle}
-use Rattle.kpn_net.proofs.Cycles.{Contains-first, Contains-later, Contains-cases, Contains-none, cycle_from, cycle_short, waits_for_one}
+use Rattle.kpn_deadlock.proofs.Common.{Contains, slice_get, ◌≡◌, ◌≢◌, ◌⊎◌, ℕ, zero, suc, ◌+◌, ◌<◌, ◌≤◌, List, [], ◌∷◌, ◌++◌, length, Option, Some, None, refl, sym, ap, ◌∙◌, subst, inl, inr, arith, length-append, append_assoc, cases_lt, Contains-append_left, Contains-append_right, Contains-push_cases, Wait, Tables, wait_at, awaited, WaitsFor, WaitInTurn, IsCycle, Contains-first, Contains-later, Contains-cases, Contains-none, cycle_from, cycle_short, waits_for_one, IsLeastOf, IsCycleFrom, IsOneOf, AreTold, FindsFrom, with_found}
 use Rattle.kpn_cycle.proofs.Walks.{IsAhead, IsClosed}
-use Rattle.kpn_deadlock.specs.Told.{IsLeastOf, IsCycleFrom, IsOneOf, AreTold, FindsFrom, with_found}
 
 -- ---- the walk from a process
 

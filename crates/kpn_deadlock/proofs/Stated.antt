@@ -1,19 +1,11 @@
 -- The states of processes say what the processes wait for.
-use Rattle.std.proofs.Common.{◌≡◌, ℕ, suc, ◌+◌, ◌<◌, List, [], ◌∷◌, ◌++◌, length, map, take, get_or, refl, sym, ap, ◌∙◌, subst, arith}
+use Rattle.kpn_deadlock.proofs.Common.{◌≡◌, ℕ, suc, ◌+◌, ◌<◌, List, [], ◌∷◌, ◌++◌, length, map, take, get_or, refl, sym, ap, ◌∙◌, subst, arith, Wait, Tables, IsNetwork, Event, Ready, Held, WaitsEmpty, WaitsFull, Ended, wait_of, waits_of, Legal, AreStatesOf, wait_of_state}
 use Rattle.std.specs.List.{range_with_len}
 use Rattle.std.proofs.lemmas.List.{map-append, take_more}
-use Rattle.kpn_net.specs.declared.wait.Wait.{Wait}
-use Rattle.kpn_net.specs.Tables.{Tables}
-use Rattle.kpn_net.specs.Faults.{IsNetwork}
-use Rattle.kpn_history.specs.declared.event.Event.{Event}
 use Rattle.kpn_history.specs.declared.state.State.{State}
-use Rattle.kpn_history.specs.declared.state.State.TheVariants.{Ready, Held, WaitsEmpty, WaitsFull, Ended}
-use Rattle.kpn_history.specs.Waiting.{wait_of, waits_of}
-use Rattle.kpn_history.specs.Legal.{Legal}
 use Rattle.kpn_history.specs.Views.{IsStateOf}
 use Rattle.kpn_history.proofs.EndsOnce.{ended_by}
 use Rattle.kpn_history.proofs.WaitsAfter.{ended_is_not_blocked}
-use Rattle.kpn_deadlock.specs.Among.{AreStatesOf, wait_of_state}
 
 -- one state more
 pub states_more : (states : List State) (p : ℕ) (d : State) (wait : Wait) (before after : List Wait) → p < length states

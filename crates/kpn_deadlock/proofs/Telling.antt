@@ -1,16 +1,5 @@
 -- Which of the cycles are rings, and that those told are final.
-use Rattle.std.specs.Prelude.{Contains, All}
-use Rattle.std.proofs.Common.{◌≡◌, ℕ, ◌<◌, true, false, List, [], ◌∷◌, length, Some, None, sym, ap, ◌∙◌, subst, inl, inr, refl}
-use Rattle.std.proofs.lemmas.Bool.{and_parts, and_from, both_ways, false≢true}
-use Rattle.std.proofs.lemmas.List.Elements.{All-nil, All-cons}
-use Rattle.kpn_net.specs.declared.wait.Wait.{Wait}
-use Rattle.kpn_net.specs.declared.wait.Wait.TheVariants.{Nobody, Empty, Full}
-use Rattle.kpn_net.specs.Tables.{Tables}
-use Rattle.kpn_net.specs.Faults.{IsNetwork}
-use Rattle.kpn_net.specs.Waits.{wait_at}
-use Rattle.kpn_net.proofs.Cycles.{Contains-first, Contains-later, Contains-cases, Contains-none, cycle_unique, cycle_below}
-use Rattle.kpn_deadlock.specs.Ring.{AwaitsItem, IsRing, AreFinal}
-use Rattle.kpn_deadlock.specs.Told.{IsCycleFrom, IsRingFrom, AreRings, FindsFrom, is_wait_for_item, all_await_items}
+use Rattle.kpn_deadlock.proofs.Common.{Contains, All, ◌≡◌, ℕ, ◌<◌, true, false, List, [], ◌∷◌, length, Some, None, sym, ap, ◌∙◌, subst, inl, inr, refl, and_parts, and_from, both_ways, false≢true, All-nil, All-cons, Wait, Nobody, Empty, Full, Tables, IsNetwork, wait_at, Contains-first, Contains-later, Contains-cases, Contains-none, cycle_unique, cycle_below, AwaitsItem, IsRing, AreFinal, IsCycleFrom, IsRingFrom, AreRings, FindsFrom, is_wait_for_item, all_await_items}
 use Rattle.kpn_deadlock.proofs.Final.{silent}
 
 -- ---- waits on empty channels

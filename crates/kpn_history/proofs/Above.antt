@@ -1,11 +1,6 @@
 -- In a quiet history each process has said all that it can say on the journals, so the journals contain what each
 -- process puts on them.
-use Rattle.std.proofs.Common.{◌≡◌, ℕ, ◌<◌, Bool, true, false, ◌||◌, cond, List, [], ◌∷◌, ◌++◌, length, Option, Some, None, refl, sym, ap, ◌∙◌, subst, inl, inr, arith, length-drop}
-use Rattle.std.proofs.lemmas.Bool.{cases_Bool, eqb-true, false≢true, or_cases}
-use Rattle.kpn_history.proofs.Common.{IsPrefix, put_at, End, Process, Source, Sink, Nobody, Empty, Full, Tables, writer_of, IsNetwork, Family, IsFamilyPrefix, talk_on, written_by, IsClosed, How, Done, Overflow, ZeroDivisor, Index, Shift, Event, WaitEmpty, WaitFull, Ended, is_of, last_event, talk_of, is_end_of, has_ended, written_on, read_on, unread_on, fed, is_empty, is_full, wait_of_last, Legal, ending_of, IsQuiet}
-use Rattle.kpn_lang.proofs.Prefixes.{IsPrefix-trans, IsPrefix-same, same_from_prefix}
-use Rattle.kpn_lang.proofs.Talks.{put_at-prefix}
-use Rattle.kpn_net.proofs.Networks.{Reads, reader_of-Reads, Writes-writer_of}
+use Rattle.kpn_history.proofs.Common.{◌≡◌, ℕ, ◌<◌, Bool, true, false, ◌||◌, cond, List, [], ◌∷◌, ◌++◌, length, Option, Some, None, refl, sym, ap, ◌∙◌, subst, inl, inr, arith, length-drop, cases_Bool, eqb-true, false≢true, or_cases, IsPrefix, put_at, End, Process, Source, Sink, Nobody, Empty, Full, Tables, writer_of, IsNetwork, Family, IsFamilyPrefix, talk_on, written_by, IsClosed, How, Done, Overflow, ZeroDivisor, Index, Shift, Event, WaitEmpty, WaitFull, Ended, is_of, last_event, talk_of, is_end_of, has_ended, written_on, read_on, unread_on, fed, is_empty, is_full, wait_of_last, Legal, ending_of, IsQuiet, IsPrefix-trans, IsPrefix-same, same_from_prefix, put_at-prefix, Reads, reader_of-Reads, Writes-writer_of}
 use Rattle.kpn_history.proofs.Events.{Some-event, last_event-own, last_event-other, talk_of-grows, has_ended-push, read_on-grows, read_on-same}
 use Rattle.kpn_history.proofs.Legality.{Legal-last, by_events}
 use Rattle.kpn_history.proofs.Running.{IsLast, talk_settled-last, talk_settled-starved}

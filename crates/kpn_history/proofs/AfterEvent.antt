@@ -1,10 +1,6 @@
 -- What is left of the ends of a channel after one more event, and how many events are of processes.
 use Rattle.std.proofs.Common.{◌≡◌, ◌↔◌, ℕ, ◌+◌, Bool, true, false, not, ◌&&◌, ◌||◌, cond, eq-eqb, List, [], ◌∷◌, ◌++◌, refl, ap, ◌∙◌}
-use Rattle.std.proofs.lemmas.Bool.{false≢true}
-use Rattle.std.proofs.lemmas.List.Folds.{list_any-append}
-use Rattle.std.proofs.lemmas.List.Sums.{sum_by_push}
-use Rattle.std.specs.List.{list_any}
-use Rattle.kpn_history.proofs.Common.{End, Process, Source, Sink, Tables, reader_of, Event, Get, Put, WaitEmpty, WaitFull, Ended, is_of, is_of_process, process_events, is_end_of, has_ended, is_close_of, is_leave_of, is_closed, is_left, lives, reader_lives, takes_end, takes_reader}
+use Rattle.kpn_history.proofs.Common.{false≢true, list_any-append, sum_by_push, list_any, End, Process, Source, Sink, Tables, reader_of, Event, Get, Put, WaitEmpty, WaitFull, Ended, is_of, is_of_process, process_events, is_end_of, has_ended, is_close_of, is_leave_of, is_closed, is_left, lives, reader_lives, takes_end, takes_reader}
 
 -- ---- marks
 

@@ -1,12 +1,6 @@
 -- All journals of a list of events are below one iterate of Kahn's iteration for what was fed, if each process can say
 -- what it says in it, as in a legal history.
-use Rattle.std.proofs.Common.{◌≡◌, ℕ, zero, suc, ◌≤◌, max, true, false, ℤ, cond, List, [], ◌∷◌, ◌++◌, refl, sym, ap, ◌∙◌, subst, inl, inr, arith}
-use Rattle.std.proofs.lemmas.Bool.{cases_Bool, cases_eq, both_ways}
-use Rattle.kpn_history.proofs.Common.{IsPrefix, put_at, Process, Tables, channel_at, is_source, writer_of, IsNetwork, Family, IsFamilyPrefix, ProcessCanSay, talk_on, out_of, written_by, round, iterate, IsPrefixOnSources, Event, Put, Feed, talk_of, written_in, written_on, read_on, fed, Legal}
-use Rattle.kpn_lang.proofs.Prefixes.{IsPrefix-trans, IsPrefix-same}
-use Rattle.kpn_lang.proofs.Talks.{put_at-prefix}
-use Rattle.kpn_net.proofs.Monotone.{out_of-grows, round-grows, iterate-grows, IsPrefixOnSources-refl}
-use Rattle.kpn_net.proofs.Networks.{Writes, writer_of-Writes, source_if_not_written}
+use Rattle.kpn_history.proofs.Common.{◌≡◌, ℕ, zero, suc, ◌≤◌, max, true, false, ℤ, cond, List, [], ◌∷◌, ◌++◌, refl, sym, ap, ◌∙◌, subst, inl, inr, arith, cases_Bool, cases_eq, both_ways, IsPrefix, put_at, Process, Tables, channel_at, is_source, writer_of, IsNetwork, Family, IsFamilyPrefix, ProcessCanSay, talk_on, out_of, written_by, round, iterate, IsPrefixOnSources, Event, Put, Feed, talk_of, written_in, written_on, read_on, fed, Legal, IsPrefix-trans, IsPrefix-same, put_at-prefix, out_of-grows, round-grows, iterate-grows, IsPrefixOnSources-refl, Writes, writer_of-Writes, source_if_not_written}
 use Rattle.kpn_history.proofs.Events.{written_on-grows, written_on-same, read_on-same}
 use Rattle.kpn_history.proofs.Legality.{Legal-before, by_events}
 use Rattle.kpn_history.proofs.Ownership.{Owns, Owns-last}

@@ -2,10 +2,7 @@
 -- limit.
 use Rattle.std.specs.Option.{option_map, unwrap_or}
 use Rattle.std.proofs.Common.{◌≡◌, ℕ, suc, ◌+◌, ◌<◌, ◌≤◌, Bool, true, false, cond, eqb, eq-eqb, List, [], ◌∷◌, ◌++◌, length, count_by, Option, Some, None, refl, sym, ap, ◌∙◌, subst, inl, inr, arith}
-use Rattle.std.proofs.lemmas.List.Sums.{sum_by_push}
-use Rattle.std.proofs.lemmas.Bool.{eqb-true, false≢true}
-use Rattle.kpn_history.proofs.Common.{Tables, channel_at, capacity, larger_capacity, IsNetwork, Event, Grow, is_growth_of, after_growths, capacity_after, capacity_or_zero, capacity_then, OwesGrowth, MayFollow, Legal}
-use Rattle.kpn_net.proofs.Networks.{capacity_in_range, larger_capacity_is_no_less, larger_capacity_in_range}
+use Rattle.kpn_history.proofs.Common.{sum_by_push, eqb-true, false≢true, Tables, channel_at, capacity, larger_capacity, IsNetwork, Event, Grow, is_growth_of, after_growths, capacity_after, capacity_or_zero, capacity_then, OwesGrowth, MayFollow, Legal, capacity_in_range, larger_capacity_is_no_less, larger_capacity_in_range}
 use Rattle.kpn_history.proofs.Legality.{Legal-last, Legal-before, by_events}
 
 -- ---- one more event

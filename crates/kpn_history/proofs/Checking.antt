@@ -1,7 +1,5 @@
 -- The way from a process to the next that it waits for, in a history. If it comes round, it is a blocked cycle.
-use Rattle.std.proofs.Common.{◌≡◌, ℕ, suc, Bool, true, false, List, [], length, arith}
-use Rattle.kpn_history.proofs.Common.{Wait, Nobody, Empty, Full, Tables, Event, waits_of, IsBlockedCycle}
-use Rattle.kpn_net.proofs.Cycles.{cycle_from}
+use Rattle.kpn_history.proofs.Common.{◌≡◌, ℕ, suc, Bool, true, false, List, [], length, arith, Wait, Nobody, Empty, Full, Tables, Event, waits_of, IsBlockedCycle, cycle_from}
 use Rattle.kpn_history.proofs.Searching.{way-round, Way, Round, way, Allows, way-allows}
 
 -- this many steps lead round any cycle

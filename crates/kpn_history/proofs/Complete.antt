@@ -2,12 +2,7 @@
 -- journals, by induction over the rounds: a finished process says on it at most what it said, since it has ended or
 -- starves where it waits.
 use Rattle.std.proofs.Common.{◌≡◌, ℕ, zero, suc, ◌<◌, max, true, ℤ, cond, eqb, eq-eqb, List, [], length, refl, sym, ap, subst, inl, inr, arith}
-use Rattle.std.proofs.lemmas.Bool.{cases_Bool, cases_eq, ne_eqb}
-use Rattle.kpn_history.proofs.Common.{IsPrefix, put_at, End, Process, Source, Sink, Tables, channel_at, is_source, writer_of, IsNetwork, Family, IsFamilyPrefix, talk_on, written_by, round, iterate, IsPrefixOnSources, IsLeast, Event, talk_of, last_event, written_on, read_on, fed, is_closed, Legal, PutsNoMore, IsFinished, IsComplete, IsFedFrom}
-use Rattle.kpn_lang.proofs.Prefixes.{IsPrefix-trans, IsPrefix-same, IsPrefix-antisym}
-use Rattle.kpn_lang.proofs.Talks.{put_at-prefix}
-use Rattle.kpn_net.proofs.Monotone.{talk_on-grows, round-grows, iterate-grows, IsPrefixOnSources-refl}
-use Rattle.kpn_net.proofs.Networks.{writer_of-source, Writes-writer_of}
+use Rattle.kpn_history.proofs.Common.{cases_Bool, cases_eq, ne_eqb, IsPrefix, put_at, End, Process, Source, Sink, Tables, channel_at, is_source, writer_of, IsNetwork, Family, IsFamilyPrefix, talk_on, written_by, round, iterate, IsPrefixOnSources, IsLeast, Event, talk_of, last_event, written_on, read_on, fed, is_closed, Legal, PutsNoMore, IsFinished, IsComplete, IsFedFrom, IsPrefix-trans, IsPrefix-same, IsPrefix-antisym, put_at-prefix, talk_on-grows, round-grows, iterate-grows, IsPrefixOnSources-refl, writer_of-source, Writes-writer_of}
 use Rattle.kpn_history.proofs.Journals.{put_by_owner}
 use Rattle.kpn_history.proofs.Below.{IsBelowIterate, round-source, fed-source}
 use Rattle.kpn_history.proofs.Above.{SaysAll, SaysAll-legal, empty_wait, read_if_empty}

@@ -1,10 +1,5 @@
 -- In a quiet history with closed sources each process is finished.
-use Rattle.std.proofs.Common.{◌≡◌, ℕ, ◌+◌, ◌<◌, true, List, length, get_or, refl, sym, ap, ◌∙◌, subst, inl, inr, arith}
-use Rattle.std.specs.Prelude.{Contains}
-use Rattle.std.specs.List.{range_with_len}
-use Rattle.std.proofs.lemmas.List.FromFn.{length-range_with_len, get_or-range_with_len}
-use Rattle.kpn_history.proofs.Common.{End, Process, Source, Sink, Tables, channel_at, is_source, writer_of, IsNetwork, Event, is_closed, Legal, IsQuiet, PutsNoMore, AreFinished, IsFinished}
-use Rattle.kpn_net.proofs.Networks.{Writes-writer_of, source-writer_of, writer_is_no_sink}
+use Rattle.kpn_history.proofs.Common.{◌≡◌, ℕ, ◌+◌, ◌<◌, true, List, length, get_or, refl, sym, ap, ◌∙◌, subst, inl, inr, arith, Contains, range_with_len, length-range_with_len, get_or-range_with_len, End, Process, Source, Sink, Tables, channel_at, is_source, writer_of, IsNetwork, Event, is_closed, Legal, IsQuiet, PutsNoMore, AreFinished, IsFinished, Writes-writer_of, source-writer_of, writer_is_no_sink}
 use Rattle.kpn_history.proofs.OwnWaits.{wait_on_empty}
 
 -- the numbers below n

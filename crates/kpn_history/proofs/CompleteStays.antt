@@ -1,10 +1,7 @@
 -- No legal longer history puts anything more on a complete channel, and the channel stays complete: its writer has ended
 -- or waits, and what it waits for does not come.
 use Rattle.std.proofs.Common.{◌≡◌, ℕ, true, false, cond, eqb, eq-eqb, List, [], ◌∷◌, ◌++◌, ℤ, refl, sym, ap, ◌∙◌, subst, inl, inr}
-use Rattle.std.specs.Prelude.{Contains}
-use Rattle.std.proofs.lemmas.Bool.{both_ways, false_from_ne_true, eqb-true, or_left}
-use Rattle.kpn_history.proofs.Common.{Nobody, Empty, End, Process, Source, Sink, Tables, writer_of, IsNetwork, Event, Put, Feed, is_of, is_end_of, has_ended, written_in, written_on, is_close_of, is_closed, wait_of, wait_made, wakes_reader, wait_then, Legal, PutsNoMore, AreFinished, IsFinished, IsComplete}
-use Rattle.kpn_net.proofs.Networks.{writer_of-source, writer_of-Writes}
+use Rattle.kpn_history.proofs.Common.{Contains, both_ways, false_from_ne_true, eqb-true, or_left, Nobody, Empty, End, Process, Source, Sink, Tables, writer_of, IsNetwork, Event, Put, Feed, is_of, is_end_of, has_ended, written_in, written_on, is_close_of, is_closed, wait_of, wait_made, wakes_reader, wait_then, Legal, PutsNoMore, AreFinished, IsFinished, IsComplete, writer_of-source, writer_of-Writes}
 use Rattle.kpn_history.proofs.Events.{written_on-same}
 use Rattle.kpn_history.proofs.Legality.{can_go, Legal-last, onward}
 use Rattle.kpn_history.proofs.Ownership.{Owns-last}

@@ -1,16 +1,9 @@
 -- A walk from a channel along the waits, from writer to writer, says whether the channel is complete. It makes at most
 -- one step for each process: if it comes to a process for the second time, the processes that it passed wait for each
 -- other on empty channels. Walks on machines and on views cite this.
-use Rattle.std.proofs.Common.{◌≡◌, ◌↔◌, ◌⊎◌, ℕ, ◌+◌, ◌<◌, ◌≤◌, true, false, eqb, List, [], ◌∷◌, length, refl, sym, ap, ◌∙◌, subst, inl, inr, arith}
-use Rattle.std.specs.Prelude.{Contains}
+use Rattle.kpn_history.proofs.Common.{◌≡◌, ◌↔◌, ◌⊎◌, ℕ, ◌+◌, ◌<◌, ◌≤◌, true, false, eqb, List, [], ◌∷◌, length, refl, sym, ap, ◌∙◌, subst, inl, inr, arith, Contains, cases_Bool, both_ways, eqb-true, ne_eqb, length-le_from_distinct_below, Contains-from_any, list_any-from_Contains, Process, Source, Empty, Tables, writer_of, Event, has_ended, is_closed, wait_of, PutsNoMore, StarvesAmong, AreFinished, IsFinished, IsComplete, Writes-writer_of, Contains-first, Contains-later, Contains-cases, Contains-none}
 use Rattle.std.specs.List.{list_any, AllByRecursion, IsDistinct}
-use Rattle.std.proofs.lemmas.Bool.{cases_Bool, both_ways, eqb-true, ne_eqb}
-use Rattle.std.proofs.lemmas.Map.Steps.{length-le_from_distinct_below}
-use Rattle.std.proofs.lemmas.Map.Views.{Contains-from_any, list_any-from_Contains}
 use Rattle.std.specs.Cmp.{nat_eq_equiv}
-use Rattle.kpn_history.proofs.Common.{Process, Source, Empty, Tables, writer_of, Event, has_ended, is_closed, wait_of, PutsNoMore, StarvesAmong, AreFinished, IsFinished, IsComplete}
-use Rattle.kpn_net.proofs.Networks.{Writes-writer_of}
-use Rattle.kpn_net.proofs.Cycles.{Contains-first, Contains-later, Contains-cases, Contains-none}
 use Rattle.kpn_history.proofs.Finished.{StarvesAmong-later, finished_cases, finished_if_ended, finished_if_starved, complete-process, process-complete}
 
 -- the processes that a walk has passed before it came to a channel: distinct ones, as many as its steps. Each waits as

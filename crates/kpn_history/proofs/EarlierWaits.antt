@@ -1,12 +1,6 @@
 -- An event makes nobody blocked but the process whose wait it is. After any other event, a blocked process was blocked
 -- on the same channel before. So a blocked cycle without that process was there before.
-use Rattle.std.specs.Prelude.{Contains}
-use Rattle.std.proofs.Common.{◌≡◌, ◌≢◌, ℕ, ◌<◌, Bool, true, false, cond, zero-add, List, [], ◌∷◌, ◌++◌, length, Some, None, refl, sym, ap, ◌∙◌, subst, inl, inr}
-use Rattle.std.specs.List.{cons_option}
-use Rattle.std.proofs.lemmas.Bool.{cases_Bool, eqb-true}
-use Rattle.std.proofs.lemmas.List.FromFn.{get_or-map-range_with_len}
-use Rattle.kpn_history.proofs.Common.{Wait, Nobody, Empty, Full, Tables, IsNetwork, wait_at, awaited, full_channel, full_channels, WaitInTurn, Event, WaitEmpty, WaitFull, is_of, is_empty, is_full, wait_of, waits_of, IsBlockedCycle, full_in_cycle, wait_made, wait_kept, waiter, Legal}
-use Rattle.kpn_net.proofs.Cycles.{Contains-first, Contains-later, cycle_below}
+use Rattle.kpn_history.proofs.Common.{Contains, ◌≡◌, ◌≢◌, ℕ, ◌<◌, Bool, true, false, cond, zero-add, List, [], ◌∷◌, ◌++◌, length, Some, None, refl, sym, ap, ◌∙◌, subst, inl, inr, cons_option, cases_Bool, eqb-true, get_or-map-range_with_len, Wait, Nobody, Empty, Full, Tables, IsNetwork, wait_at, awaited, full_channel, full_channels, WaitInTurn, Event, WaitEmpty, WaitFull, is_of, is_empty, is_full, wait_of, waits_of, IsBlockedCycle, full_in_cycle, wait_made, wait_kept, waiter, Legal, Contains-first, Contains-later, cycle_below}
 use Rattle.kpn_history.proofs.WaitsAfter.{wait_of-more}
 
 -- ---- a blocked process was blocked before

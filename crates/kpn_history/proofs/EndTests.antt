@@ -1,10 +1,6 @@
 -- Plain tests of how a history may end, and what follows from a yes of each: quiet, settled, and each verdict.
-use Rattle.std.specs.Prelude.{Contains}
-use Rattle.std.proofs.Common.{◌≡◌, ℕ, ◌<◌, ◌⊎◌, inl, inr, Bool, true, false, not, ◌&&◌, ◌||◌, List, [], ◌∷◌, length, Some, refl, subst}
-use Rattle.std.proofs.lemmas.Bool.{and_parts, or_cases, not-true, not-false, not_from_false, both_ways, cases_Bool}
-use Rattle.kpn_history.proofs.Common.{Wait, Nobody, Empty, Full, Tables, channel_at, is_source, is_sink, Event, Verdict, has_ended, is_empty, is_closed, is_left, wait_of, waits_of, full_in_cycle, HasFullCycle, WaitsOnEmpty, WaitsOnFull, IsQuiet, IsSettled, HasFullWait, IsVerdict}
+use Rattle.kpn_history.proofs.Common.{Contains, ◌≡◌, ℕ, ◌<◌, ◌⊎◌, inl, inr, Bool, true, false, not, ◌&&◌, ◌||◌, List, [], ◌∷◌, length, Some, refl, subst, and_parts, or_cases, not-true, not-false, not_from_false, both_ways, cases_Bool, Wait, Nobody, Empty, Full, Tables, channel_at, is_source, is_sink, Event, Verdict, has_ended, is_empty, is_closed, is_left, wait_of, waits_of, full_in_cycle, HasFullCycle, WaitsOnEmpty, WaitsOnFull, IsQuiet, IsSettled, HasFullWait, IsVerdict, Contains-first, Contains-none, cycle_below}
 use Rattle.kpn_history.specs.declared.state.Verdict.TheVariants as verdict
-use Rattle.kpn_net.proofs.Cycles.{Contains-first, Contains-none, cycle_below}
 use Rattle.kpn_history.proofs.Searching.{each_below, each_below-at, each_below-fails, way-ends, Way, Round, Off, Lost, Allows}
 use Rattle.kpn_history.proofs.Checking.{way_round, way_round-allows, way_round-cycle, is_nobody}
 

@@ -1,10 +1,8 @@
 -- A process has ended if some end of it is among the events. In a legal history that is one event.
 use Rattle.std.specs.Prelude.{Contains, slice_get}
 use Rattle.std.proofs.Common.{◌≡◌, ◌↔◌, ◌⊎◌, ℕ, zero, suc, true, eq-eqb, List, [], ◌∷◌, ◌++◌, length, Option, Some, refl, sym, ap, ◌∙◌, subst, inl, inr}
-use Rattle.std.proofs.lemmas.Bool.{both_ways, eqb-true, false≢true, or_cases, or_left, or_right}
+use Rattle.kpn_history.proofs.Common.{both_ways, eqb-true, false≢true, or_cases, or_left, or_right, Tables, How, Event, Ended, is_of, is_end_of, has_ended, Legal, Contains-first, Contains-later, Contains-cases, Contains-none}
 use Rattle.std.proofs.lemmas.Option.{slice_get_within, get_or_from_slice_get, slice_get-get_or}
-use Rattle.kpn_history.proofs.Common.{Tables, How, Event, Ended, is_of, is_end_of, has_ended, Legal}
-use Rattle.kpn_net.proofs.Cycles.{Contains-first, Contains-later, Contains-cases, Contains-none}
 use Rattle.kpn_history.proofs.Legality.{by_events}
 use Rattle.kpn_history.proofs.WaitsAfter.{alive_before}
 

@@ -1,11 +1,7 @@
 -- What one more event does to the lists of a history.
 use Rattle.std.proofs.Common.{◌≡◌, ℕ, ◌<◌, cond, Bool, true, false, ◌||◌, List, [], ◌∷◌, ◌++◌, Option, Some, None, refl, sym, ap, ◌∙◌, ◌-◌, suc, length, slice_get, arith}
-use Rattle.std.specs.List.{filter, flat_map, last_or}
+use Rattle.kpn_history.proofs.Common.{filter, flat_map, last_or, filter-append, list_any-append, Said, IsPrefix, Event, Get, Put, is_of, last_event, said_in, talk_of, is_end_of, has_ended, written_in, read_in, written_on, read_on, IsPrefix-append}
 use Rattle.std.proofs.lemmas.List.{flat_map_more, append-nil}
-use Rattle.std.proofs.lemmas.List.Elements.{filter-append}
-use Rattle.std.proofs.lemmas.List.Folds.{list_any-append}
-use Rattle.kpn_history.proofs.Common.{Said, IsPrefix, Event, Get, Put, is_of, last_event, said_in, talk_of, is_end_of, has_ended, written_in, read_in, written_on, read_on}
-use Rattle.kpn_lang.proofs.Prefixes.{IsPrefix-append}
 
 pub Some-event : (a b : Event) → ◌≡◌ {A = Option Event} (Some a) (Some b) → a ≡ b
 Some-event a b e = cc

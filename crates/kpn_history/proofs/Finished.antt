@@ -1,9 +1,6 @@
 -- A process is finished if and only if it has ended or waits on an empty channel that is complete. Processes that are
 -- finished stay so if more are taken to be finished.
-use Rattle.std.proofs.Common.{◌≡◌, ◌↔◌, ◌⊎◌, ℕ, true, List, [], ◌∷◌, refl, sym, subst, inl, inr}
-use Rattle.std.specs.Prelude.{Contains}
-use Rattle.kpn_history.proofs.Common.{End, Process, Source, Sink, Empty, Tables, writer_of, Event, has_ended, wait_of, PutsNoMore, StarvesAmong, AreFinished, IsFinished, IsComplete, WaitsOnComplete}
-use Rattle.kpn_net.proofs.Cycles.{Contains-first, Contains-later, Contains-cases, Contains-none}
+use Rattle.kpn_history.proofs.Common.{◌≡◌, ◌↔◌, ◌⊎◌, ℕ, true, List, [], ◌∷◌, refl, sym, subst, inl, inr, Contains, End, Process, Source, Sink, Empty, Tables, writer_of, Event, has_ended, wait_of, PutsNoMore, StarvesAmong, AreFinished, IsFinished, IsComplete, WaitsOnComplete, Contains-first, Contains-later, Contains-cases, Contains-none}
 
 -- what puts no more if these processes are finished puts no more if those are
 pub PutsNoMore-if : (P Q : ℕ → Type 0) (H : List Event) (c : ℕ) → ((p : ℕ) → P p → Q p) → (writer : End)

@@ -1,13 +1,7 @@
 -- In every legal history, the process whose wait is the last event is a member of each blocked cycle with a full
 -- channel below the limit. So the growth of its smallest full channel is owed, and if none is owed there is no such
 -- cycle.
-use Rattle.std.specs.Prelude.{Contains}
-use Rattle.std.specs.List.{last_or}
-use Rattle.std.proofs.Common.{◌≡◌, ℕ, ◌<◌, ◌≤◌, ◌⊎◌, Bool, true, false, cond, List, [], ◌∷◌, ◌++◌, length, Option, Some, None, refl, sym, ap, ◌∙◌, subst, inl, inr, arith}
-use Rattle.std.proofs.lemmas.List.Sorted.{Contains-permutation, IsPermutation-sym}
-use Rattle.std.proofs.lemmas.Bool.{and_parts, both_ways, cases_Bool, leb-true}
-use Rattle.kpn_history.proofs.Common.{Wait, Nobody, Empty, Full, Tables, larger_capacity, IsNetwork, wait_at, awaited, full_channel, full_channels, WaitInTurn, IsSmallest, Event, WaitEmpty, WaitFull, Grow, reaches, unread_on, reader_lives, is_empty, capacity_after, capacity_or_zero, is_full, wait_of_last, wait_of, waits_of, full_in_cycle, waiter, waiter_of_last, OwesCycleGrowth, OwesGrowth, Legal, last_event, OwesNothing, OwesNoCycleGrowth, CanGrow}
-use Rattle.kpn_net.proofs.Cycles.{Contains-cases, Contains-none, smallest_among, smallest_unique, full_at, rotated, cycle_unique, cycle_below}
+use Rattle.kpn_history.proofs.Common.{Contains, last_or, ◌≡◌, ℕ, ◌<◌, ◌≤◌, ◌⊎◌, Bool, true, false, cond, List, [], ◌∷◌, ◌++◌, length, Option, Some, None, refl, sym, ap, ◌∙◌, subst, inl, inr, arith, Contains-permutation, IsPermutation-sym, and_parts, both_ways, cases_Bool, leb-true, Wait, Nobody, Empty, Full, Tables, larger_capacity, IsNetwork, wait_at, awaited, full_channel, full_channels, WaitInTurn, IsSmallest, Event, WaitEmpty, WaitFull, Grow, reaches, unread_on, reader_lives, is_empty, capacity_after, capacity_or_zero, is_full, wait_of_last, wait_of, waits_of, full_in_cycle, waiter, waiter_of_last, OwesCycleGrowth, OwesGrowth, Legal, last_event, OwesNothing, OwesNoCycleGrowth, CanGrow, Contains-cases, Contains-none, smallest_among, smallest_unique, full_at, rotated, cycle_unique, cycle_below}
 use Rattle.kpn_history.proofs.Events.{last_or-push}
 use Rattle.kpn_history.proofs.Legality.{Legal-last, Legal-before, Legal-consistent, by_events}
 use Rattle.kpn_history.proofs.Capacities.{capacity_grows, capacity_of_growth, larger_by_growth}

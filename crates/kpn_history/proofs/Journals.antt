@@ -1,11 +1,8 @@
 -- In a legal history the journal of a channel is what its writer put there, what was read from it is what its reader
 -- got, and only channels of the network are read.
 use Rattle.std.proofs.Common.{◌≡◌, ℕ, ◌<◌, ◌≤◌, Bool, true, false, ℤ, cond, eqb, eq-eqb, List, [], ◌∷◌, ◌++◌, length, drop, refl, sym, ap, ◌∙◌, subst, inl, inr, arith}
-use Rattle.std.proofs.lemmas.Bool.{false_from_ne_true, false≢true, eqb-true, ne_eqb, both_ways, cases_lt}
+use Rattle.kpn_history.proofs.Common.{false_from_ne_true, false≢true, eqb-true, ne_eqb, both_ways, cases_lt, IsPrefix, got_at, put_at, Process, Source, Sink, Tables, channel_at, is_source, is_sink, writer_of, reader_of, IsNetwork, IsFamilyPrefix, ProcessCanSay, Event, Get, Put, Feed, Take, is_of, said_in, talk_of, written_in, read_in, written_on, read_on, unread_on, HasNumbers, Legal, got_at-append, put_at-append, Reads, Writes, writer_of-Writes, reader_of-Reads, writer_of-source, reader_of-sink}
 use Rattle.kpn_lang.specs.declared.talk.Said.TheVariants as said
-use Rattle.kpn_history.proofs.Common.{IsPrefix, got_at, put_at, Process, Source, Sink, Tables, channel_at, is_source, is_sink, writer_of, reader_of, IsNetwork, IsFamilyPrefix, ProcessCanSay, Event, Get, Put, Feed, Take, is_of, said_in, talk_of, written_in, read_in, written_on, read_on, unread_on, HasNumbers, Legal}
-use Rattle.kpn_lang.proofs.Talks.{got_at-append, put_at-append}
-use Rattle.kpn_net.proofs.Networks.{Reads, Writes, writer_of-Writes, reader_of-Reads, writer_of-source, reader_of-sink}
 use Rattle.kpn_history.proofs.Events.{talk_of-push, read_on-push, read_on-same}
 use Rattle.kpn_history.proofs.Legality.{Legal-last, Legal-consistent, by_events}
 use Rattle.kpn_history.proofs.Ownership.{Owns, Owns-last, AreOwn, AreOwn-legal}

@@ -1,10 +1,6 @@
 -- Kahn's theorem over all legal histories. As in Kahn 1974, the streams of a network are the least solution of its
 -- processes' equations, whatever the order in which the processes go.
-use Rattle.std.proofs.Common.{◌≡◌, ℕ, ◌≤◌, ◌⊎◌, max, List, length, take, refl, sym, ap, ◌∙◌, inl, inr, arith}
-use Rattle.std.proofs.lemmas.List.{take-append-le}
-use Rattle.kpn_history.proofs.Common.{IsPrefix, Tables, IsNetwork, Family, iterate, IsPrefixOnSources, AgreeOnSources, IsBelowLeast, IsLeast, Event, written_on, read_on, fed, Legal, IsQuiet}
-use Rattle.kpn_lang.proofs.Prefixes.{IsPrefix-trans, IsPrefix-same, IsPrefix-antisym, rest_of_prefix, prefixes_of_one, length_of_prefix}
-use Rattle.kpn_net.proofs.Monotone.{iterate-grows, IsPrefixOnSources-refl, IsPrefixOnSources-agree, round-depends_on_sources, closed_below-IsLeast}
+use Rattle.kpn_history.proofs.Common.{◌≡◌, ℕ, ◌≤◌, ◌⊎◌, max, List, length, take, refl, sym, ap, ◌∙◌, inl, inr, arith, take-append-le, IsPrefix, Tables, IsNetwork, Family, iterate, IsPrefixOnSources, AgreeOnSources, IsBelowLeast, IsLeast, Event, written_on, read_on, fed, Legal, IsQuiet, IsPrefix-trans, IsPrefix-same, IsPrefix-antisym, rest_of_prefix, prefixes_of_one, length_of_prefix, iterate-grows, IsPrefixOnSources-refl, IsPrefixOnSources-agree, round-depends_on_sources, closed_below-IsLeast}
 use Rattle.kpn_history.proofs.Journals.{reads_begin_writes}
 use Rattle.kpn_history.proofs.Below.{IsBelowIterate, journals_below, fed_on_sources}
 use Rattle.kpn_history.proofs.Above.{SaysAll-legal, IsClosed-quiet}

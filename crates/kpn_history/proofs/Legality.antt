@@ -1,9 +1,6 @@
 -- Beginnings of legal histories are legal, and a history is legal if it is made event by event.
-use Rattle.std.proofs.Common.{◌≡◌, ℕ, true, List, [], ◌∷◌, ◌++◌, sym, subst, inl, inr, append_assoc, arith}
-use Rattle.std.proofs.lemmas.Bool.{false≢true, eqb-true}
+use Rattle.kpn_history.proofs.Common.{◌≡◌, ℕ, true, List, [], ◌∷◌, ◌++◌, sym, subst, inl, inr, append_assoc, arith, false≢true, eqb-true, IsPrefix, Tables, Event, Get, Put, WaitEmpty, WaitFull, Ended, is_of, CanGo, IsConsistent, MayFollow, Legal, IsPrefix-refl, IsPrefix-trans, IsPrefix-append, nil_from_prefix, prefix_of_push}
 use Rattle.std.proofs.lemmas.List.{append-nil, same_from_push}
-use Rattle.kpn_history.proofs.Common.{IsPrefix, Tables, Event, Get, Put, WaitEmpty, WaitFull, Ended, is_of, CanGo, IsConsistent, MayFollow, Legal}
-use Rattle.kpn_lang.proofs.Prefixes.{IsPrefix-refl, IsPrefix-trans, IsPrefix-append, nil_from_prefix, prefix_of_push}
 
 -- a list that ends with one more event is no beginning of the empty list
 push_is_no_prefix_of_nil : (B : List Event) (e : Event) → IsPrefix (B ++ e ∷ []) [] → ⊥

@@ -1,18 +1,7 @@
 -- What a final run has made, no other run from the same lists passes, whatever the order in which their processes went.
 -- The proof is two inductions over events, without diamonds of steps. First: of the processes for which a growth is
 -- owed in one run, no other run makes more before that growth. Then: event by event, a run stays within a final one.
-use Rattle.std.specs.Prelude.{Contains}
-use Rattle.std.specs.List.{range_with_len}
-use Rattle.std.proofs.Common.{◌≡◌, ℕ, ◌+◌, ◌<◌, ◌≤◌, ◌⊎◌, Bool, true, false, cond, List, [], ◌∷◌, ◌++◌, length, map, refl, sym, ap, ◌∙◌, subst, inl, inr, arith}
-use Rattle.std.specs.Option.{unwrap_or}
-use Rattle.std.proofs.lemmas.Bool.{cases_lt, eqb-true, both_ways, false≢true}
-use Rattle.std.proofs.lemmas.List.Sums.{sum_by_push}
-use Rattle.kpn_history.proofs.Common.{IsPrefix, got_at, put_at, Full, End, Process, Source, Sink, Tables, channel_at, is_source, writer_of, reader_of, IsNetwork, Family, How, Event, Put, Feed, Ended, Grow, talk_of, written_in, written_on, read_on, fed, is_closed, is_left, is_growth_of, capacity_or_zero, wait_of, OwesGrowth, Legal, growths_of, IsRunFrom, IsFinalRun, HasMadeNoMore, EndAlike}
-use Rattle.kpn_lang.proofs.Prefixes.{IsPrefix-trans, IsPrefix-same, IsPrefix-antisym}
-use Rattle.kpn_lang.proofs.Talks.{got_at-prefix, put_at-prefix}
-use Rattle.kpn_net.proofs.Awaited.{in_range}
-use Rattle.kpn_net.proofs.Cycles.{Contains-first, Contains-later}
-use Rattle.kpn_net.proofs.Networks.{writer_of-Writes, Writes-writer_of, Reads-reader_of, writer_of-source, source-writer_of, sink-reader_of, source_there, sink_there, reader_is_no_source}
+use Rattle.kpn_history.proofs.Common.{Contains, range_with_len, ◌≡◌, ℕ, ◌+◌, ◌<◌, ◌≤◌, ◌⊎◌, Bool, true, false, cond, List, [], ◌∷◌, ◌++◌, length, map, refl, sym, ap, ◌∙◌, subst, inl, inr, arith, unwrap_or, cases_lt, eqb-true, both_ways, false≢true, sum_by_push, IsPrefix, got_at, put_at, Full, End, Process, Source, Sink, Tables, channel_at, is_source, writer_of, reader_of, IsNetwork, Family, How, Event, Put, Feed, Ended, Grow, talk_of, written_in, written_on, read_on, fed, is_closed, is_left, is_growth_of, capacity_or_zero, wait_of, OwesGrowth, Legal, growths_of, IsRunFrom, IsFinalRun, HasMadeNoMore, EndAlike, IsPrefix-trans, IsPrefix-same, IsPrefix-antisym, got_at-prefix, put_at-prefix, in_range, Contains-first, Contains-later, writer_of-Writes, Writes-writer_of, Reads-reader_of, writer_of-source, source-writer_of, sink-reader_of, source_there, sink_there, reader_is_no_source}
 use Rattle.kpn_history.proofs.Legality.{Legal-last, by_events}
 use Rattle.kpn_history.proofs.Events.{written_on-same}
 use Rattle.kpn_history.proofs.Ownership.{Owns, Owns-last}

@@ -1,12 +1,8 @@
 -- What one more event changes, and that a legal history with it is legal if and only if these facts hold.
 use Rattle.std.proofs.Common.{◌≡◌, ◌↔◌, ℕ, suc, ◌+◌, ◌-◌, ◌<◌, ◌≤◌, Bool, true, false, not, ◌||◌, ℤ, cond, eqb, eq-eqb, List, [], ◌∷◌, ◌++◌, length, drop, count_by, Option, Some, None, refl, sym, ap, ◌∙◌, subst, inl, inr, arith, length-drop, length-append, option_map}
-use Rattle.std.proofs.lemmas.List.Folds.{list_any-append}
-use Rattle.std.proofs.lemmas.Bool.{cases_eq, both_ways, false_from_ne_true, false≢true, not-true, and_parts, and_cases, leb-true, leb-false, ne_eqb, or_parts, not_from_false}
-use Rattle.kpn_history.proofs.Common.{Said, IsPrefix, End, Process, Source, Sink, ChannelSpec, Tables, channel_at, is_source, capacity, reader_of, Family, IsFamilyPrefix, ProcessCanSay, talk_on, Event, Get, Put, Feed, Take, said_in, talk_of, is_end_of, has_ended, written_in, read_in, written_on, read_on, unread_on, is_leave_of, is_left, lives, reader_lives, is_growth_of, after_growths, capacity_after, reaches, is_full, IsConsistent, MayFollow, Legal, IsOldest, KeepsConsistent}
+use Rattle.kpn_history.proofs.Common.{list_any-append, cases_eq, both_ways, false_from_ne_true, false≢true, not-true, and_parts, and_cases, leb-true, leb-false, ne_eqb, or_parts, not_from_false, Said, IsPrefix, End, Process, Source, Sink, ChannelSpec, Tables, channel_at, is_source, capacity, reader_of, Family, IsFamilyPrefix, ProcessCanSay, talk_on, Event, Get, Put, Feed, Take, said_in, talk_of, is_end_of, has_ended, written_in, read_in, written_on, read_on, unread_on, is_leave_of, is_left, lives, reader_lives, is_growth_of, after_growths, capacity_after, reaches, is_full, IsConsistent, MayFollow, Legal, IsOldest, KeepsConsistent, IsPrefix-trans, IsPrefix-same, length_of_prefix, talk_on-grows}
 use Rattle.kpn_lang.specs.declared.talk.Said.TheVariants as said
-use Rattle.kpn_lang.proofs.Prefixes.{IsPrefix-trans, IsPrefix-same, length_of_prefix}
 use Rattle.kpn_net.specs.declared.tables.ChannelSpec.TheVariants as channel
-use Rattle.kpn_net.proofs.Monotone.{talk_on-grows}
 use Rattle.kpn_history.proofs.Events.{flat_map-same, talk_of-push, written_on-push, written_on-grows, written_on-same, read_on-push, read_on-grows, read_on-same}
 use Rattle.kpn_history.proofs.Legality.{Legal-push, Legal-before, Legal-last, Legal-consistent}
 use Rattle.kpn_history.proofs.Ownership.{CanSay-last, said_by}

@@ -1,15 +1,10 @@
 -- The growth that is owed is what a search for the cycle through the last waiter finds, if that is below the limit. Its
 -- channel has a writer that waits on it as full.
-use Rattle.std.specs.Option.{unwrap_or}
+use Rattle.kpn_history.proofs.Common.{unwrap_or, both_ways, cases_lt, false≢true, MAX_CAPACITY, Found, Tables, IsNetwork, End, Process, Cycles, All, wait_at, full_channel, awaited_as_full, IsSmallestOfCycle, Finds, Event, Get, Put, Feed, Grow, is_of, is_end_of, has_ended, capacity_after, capacity_or_zero, wait_of, waits_of, wait_made, wait_then, IsSettled, waiter, OwesCycleGrowth, OwesGrowth, Legal, OwesNothing, OwesNoCycleGrowth, OwesNoStopGrowth, lets_go_on, IsAwaitedByWriter, HasCapacityBelow, awaited_among, awaited_by, full_at, cycle_below, smallest_among, smallest_unique, limit_in_range}
 use Rattle.std.proofs.Common.{◌≡◌, ◌↔◌, ℕ, ◌<◌, ◌≤◌, Bool, true, false, eq-eqb, List, [], ◌∷◌, ◌++◌, length, Some, refl, sym, ap, ◌∙◌, subst, inl, inr, arith}
-use Rattle.std.proofs.lemmas.Bool.{both_ways, cases_lt, false≢true}
-use Rattle.kpn_history.proofs.Common.{MAX_CAPACITY, Found, Tables, IsNetwork, End, Process, Cycles, All, wait_at, full_channel, awaited_as_full, IsSmallestOfCycle, Finds, Event, Get, Put, Feed, Grow, is_of, is_end_of, has_ended, capacity_after, capacity_or_zero, wait_of, waits_of, wait_made, wait_then, IsSettled, waiter, OwesCycleGrowth, OwesGrowth, Legal, OwesNothing, OwesNoCycleGrowth, OwesNoStopGrowth, lets_go_on, IsAwaitedByWriter, HasCapacityBelow}
 use Rattle.kpn_net.specs.declared.found.Found.TheVariants.{Full}
 use Rattle.kpn_net.specs.declared.wait.Wait.TheVariants as wait
-use Rattle.kpn_net.proofs.Awaited.{awaited_among, awaited_by}
-use Rattle.kpn_net.proofs.Cycles.{full_at, cycle_below, smallest_among, smallest_unique}
 use Rattle.kpn_net.proofs.Findings.{finding_unique}
-use Rattle.kpn_net.proofs.Networks.{limit_in_range}
 use Rattle.kpn_history.proofs.Legality.{Legal-last, Legal-before}
 use Rattle.kpn_history.proofs.AfterEvent.{has_ended-next, is_closed-next}
 use Rattle.kpn_history.proofs.EarlierWaits.{wait_at-waits_of}

@@ -1,16 +1,8 @@
 -- The processes for which a growth is owed: the members of its cycle, or at a stop all. They stand still. In no other
 -- run from the same lists do they make more unless the same channel has grown as often. So no two runs differ in which
 -- channel grows next.
-use Rattle.std.specs.Prelude.{Contains}
-use Rattle.std.specs.List.{cons_option}
-use Rattle.std.proofs.Common.{◌≡◌, ℕ, ◌<◌, ◌⊎◌, List, [], ◌∷◌, length, Option, Some, None, refl, sym, ap, ◌∙◌, subst, inl, inr, arith}
+use Rattle.kpn_history.proofs.Common.{Contains, cons_option, ◌≡◌, ℕ, ◌<◌, ◌⊎◌, List, [], ◌∷◌, length, Option, Some, None, refl, sym, ap, ◌∙◌, subst, inl, inr, arith, Contains-permutation, IsPermutation-sym, IsPrefix-antisym, Wait, Nobody, Empty, Full, End, Process, Source, Sink, Tables, channel_at, capacity, writer_of, reader_of, IsNetwork, Family, wait_at, process_at, awaited, full_channel, full_channels, WaitInTurn, Event, WaitEmpty, WaitFull, Ended, last_event, talk_of, after_growths, capacity_after, capacity_or_zero, wait_of, waits_of, IsBlockedCycle, full_in_cycle, wait_made, OwesGrowth, Legal, HasStopped, IsSettled, PutsNoMore, CanGrow, growths_of, IsRunFrom, awaited_among, Contains-first, Contains-later, Contains-cases, Contains-none, IsNoLarger, full_at, rotated, cycle_below, source-writer_of, Writes-writer_of, writer_is_no_sink}
 use Rattle.std.specs.Option.{option_map, unwrap_or}
-use Rattle.std.proofs.lemmas.List.Sorted.{Contains-permutation, IsPermutation-sym}
-use Rattle.kpn_lang.proofs.Prefixes.{IsPrefix-antisym}
-use Rattle.kpn_history.proofs.Common.{Wait, Nobody, Empty, Full, End, Process, Source, Sink, Tables, channel_at, capacity, writer_of, reader_of, IsNetwork, Family, wait_at, process_at, awaited, full_channel, full_channels, WaitInTurn, Event, WaitEmpty, WaitFull, Ended, last_event, talk_of, after_growths, capacity_after, capacity_or_zero, wait_of, waits_of, IsBlockedCycle, full_in_cycle, wait_made, OwesGrowth, Legal, HasStopped, IsSettled, PutsNoMore, CanGrow, growths_of, IsRunFrom}
-use Rattle.kpn_net.proofs.Awaited.{awaited_among}
-use Rattle.kpn_net.proofs.Cycles.{Contains-first, Contains-later, Contains-cases, Contains-none, IsNoLarger, full_at, rotated, cycle_below}
-use Rattle.kpn_net.proofs.Networks.{source-writer_of, Writes-writer_of, writer_is_no_sink}
 use Rattle.kpn_history.proofs.Above.{empty_wait}
 use Rattle.kpn_history.proofs.EarlierWaits.{KeepsWaits, turn_kept, full_kept, wait_at-waits_of}
 use Rattle.kpn_history.proofs.Growth.{full_wait, blocked_in_table, no_cycle_can_grow}

@@ -1,9 +1,5 @@
 -- In a legal history each process waits on a channel of its own, which is empty or full as it says.
-use Rattle.std.proofs.Common.{◌≡◌, ℕ, Bool, true, false, cond, List, length, Option, Some, None, refl, sym, ap, ◌∙◌, subst}
-use Rattle.std.proofs.lemmas.Bool.{eqb-true}
-use Rattle.std.proofs.lemmas.List.FromFn.{length-map-range_with_len}
-use Rattle.kpn_history.proofs.Common.{Wait, Nobody, Empty, Full, Process, Tables, writer_of, reader_of, IsNetwork, IsOwnWait, AreWaits, Event, WaitEmpty, WaitFull, last_event, is_empty, is_full, wait_of_last, wait_of, waits_of, MayWaitOnEmpty, MayWaitOnFull, Legal}
-use Rattle.kpn_net.proofs.Networks.{reader_of-Reads, writer_of-Writes, Reads-reader_of, Writes-writer_of, Reads-below, Writes-below}
+use Rattle.kpn_history.proofs.Common.{◌≡◌, ℕ, Bool, true, false, cond, List, length, Option, Some, None, refl, sym, ap, ◌∙◌, subst, eqb-true, length-map-range_with_len, Wait, Nobody, Empty, Full, Process, Tables, writer_of, reader_of, IsNetwork, IsOwnWait, AreWaits, Event, WaitEmpty, WaitFull, last_event, is_empty, is_full, wait_of_last, wait_of, waits_of, MayWaitOnEmpty, MayWaitOnFull, Legal, reader_of-Reads, writer_of-Writes, Reads-reader_of, Writes-writer_of, Reads-below, Writes-below}
 use Rattle.kpn_history.proofs.WaitsAfter.{last_is_own}
 use Rattle.kpn_history.proofs.Above.{empty_wait}
 use Rattle.kpn_history.proofs.EarlierWaits.{wait_at-waits_of}

@@ -1,8 +1,7 @@
 -- The channel of each event of a legal history belongs to whatever made the event.
 use Rattle.std.proofs.Common.{◌≡◌, ℕ, ◌<◌, true, cond, eqb, eq-eqb, List, [], ◌∷◌, ◌++◌, length, refl, ap, ◌∙◌, subst}
-use Rattle.kpn_history.proofs.Common.{Said, Tables, channel_at, is_source, is_sink, IsNetwork, ProcessCanSay, Event, Get, Put, WaitEmpty, WaitFull, Ended, Feed, Close, Take, Leave, Grow, said_in, talk_of, read_on, Legal, IsOwn}
+use Rattle.kpn_history.proofs.Common.{Said, Tables, channel_at, is_source, is_sink, IsNetwork, ProcessCanSay, Event, Get, Put, WaitEmpty, WaitFull, Ended, Feed, Close, Take, Leave, Grow, said_in, talk_of, read_on, Legal, IsOwn, Reads, Writes, reader_of-Reads, writer_of-Writes}
 use Rattle.kpn_lang.specs.declared.talk.Said.TheVariants as said
-use Rattle.kpn_net.proofs.Networks.{Reads, Writes, reader_of-Reads, writer_of-Writes}
 use Rattle.kpn_history.proofs.Events.{talk_of-push}
 use Rattle.kpn_history.proofs.Legality.{Legal-last, Legal-consistent, by_events}
 use Rattle.kpn_history.proofs.Running.{CanSay-reads, CanSay-writes, ComesTo-reads}

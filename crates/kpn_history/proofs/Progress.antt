@@ -1,15 +1,9 @@
 -- What the next event of a history asks of another one that has made the events before it. An event of a process is
 -- made once the process has had its turn there. Any other event is made already: a growth that was owed is owed there
 -- too, unless it has come.
-use Rattle.std.specs.Prelude.{Contains}
+use Rattle.kpn_history.proofs.Common.{Contains, unwrap_or, cases_Bool, cases_lt, both_ways, eqb-true, false≢true, false_from_ne_true, or_left, IsPrefix, got_at, put_at, End, Process, Source, Sink, Tables, channel_at, is_source, writer_of, reader_of, IsNetwork, Family, Event, Get, Put, WaitEmpty, WaitFull, Ended, is_of, is_of_process, said_in, talk_of, takes_end, PutsNoMore, written_in, read_in, written_on, unread_on, is_growth_of, is_close_of, is_closed, is_empty, is_full, capacity_or_zero, wait_of, OwesGrowth, Legal, OwesNothing, HasStopped, IsSettled, growths_of, IsRunFrom, HasMadeNoMore, IsHalt, HasHalted, HasMade, IsCaughtUp, HasHadTurn, IsPrefix-trans, IsPrefix-same, length_of_prefix, rest_of_prefix, same_from_prefix, got_at-prefix, put_at-prefix, Reads-below, writer_of-Writes, reader_of-Reads, Writes-writer_of, Reads-reader_of, source-writer_of, sink-reader_of, writer_is_no_sink, reader_is_no_source}
 use Rattle.std.proofs.Common.{◌≡◌, ℕ, ◌+◌, ◌<◌, ◌≤◌, ◌⊎◌, true, false, cond, eq-eqb, List, [], ◌∷◌, ◌++◌, length, Some, append_assoc, refl, sym, ap, ◌∙◌, subst, inl, inr, arith, length-append, append-nil}
-use Rattle.std.specs.Option.{unwrap_or}
-use Rattle.std.proofs.lemmas.Bool.{cases_Bool, cases_lt, both_ways, eqb-true, false≢true, false_from_ne_true, or_left}
 use Rattle.kpn_lang.specs.declared.talk.Said.TheVariants as said
-use Rattle.kpn_history.proofs.Common.{IsPrefix, got_at, put_at, End, Process, Source, Sink, Tables, channel_at, is_source, writer_of, reader_of, IsNetwork, Family, Event, Get, Put, WaitEmpty, WaitFull, Ended, is_of, is_of_process, said_in, talk_of, takes_end, PutsNoMore, written_in, read_in, written_on, unread_on, is_growth_of, is_close_of, is_closed, is_empty, is_full, capacity_or_zero, wait_of, OwesGrowth, Legal, OwesNothing, HasStopped, IsSettled, growths_of, IsRunFrom, HasMadeNoMore, IsHalt, HasHalted, HasMade, IsCaughtUp, HasHadTurn}
-use Rattle.kpn_lang.proofs.Prefixes.{IsPrefix-trans, IsPrefix-same, length_of_prefix, rest_of_prefix, same_from_prefix}
-use Rattle.kpn_lang.proofs.Talks.{got_at-prefix, put_at-prefix}
-use Rattle.kpn_net.proofs.Networks.{Reads-below, writer_of-Writes, reader_of-Reads, Writes-writer_of, Reads-reader_of, source-writer_of, sink-reader_of, writer_is_no_sink, reader_is_no_source}
 use Rattle.kpn_history.proofs.Legality.{Legal-last, Legal-before, onward}
 use Rattle.kpn_history.proofs.Events.{Some-event, last_event-own, last_event-other, talk_of-push, talk_of-grows, talk_of-other}
 use Rattle.kpn_history.proofs.AfterEvent.{of_process, is_closed-next}

@@ -1,19 +1,9 @@
 -- Where a process rests: on its end, or on a wait that lasts. What it said by then bounds what it says in other
 -- histories on the same lists, and in two histories in which it said the same it rests alike.
-use Rattle.std.specs.Prelude.{Contains}
+use Rattle.kpn_history.proofs.Common.{Contains, cases_Bool, both_ways, eqb-true, or_left, or_right, get_or_default, Contains-push_cases, Said, Ending, IsPrefix, got_at, put_at, Process, Nobody, Empty, Full, Tables, instance_at, program_of, reader_of, writer_of, IsNetwork, Family, IsFamilyPrefix, AgreeOnIns, at_channel, ends_at_channel, ran_on, talk_on, ProcessCanSay, ProcessComesTo, iterate, IsPrefixOnSources, How, Event, WaitEmpty, WaitFull, Ended, is_of, last_event, said_in, talk_of, how_of, is_end_of, has_ended, read_in, written_on, read_on, fed, is_empty, is_full, wait_of_last, wait_of, wait_made, ending_of, Legal, HasStopped, IsHalt, IsPrefix-trans, IsPrefix-same, IsPrefix-refl, length_of_prefix, prefix_of_push, prefix_after, put_at-append, put_at-prefix, IsSequential-alone, Contains-none, talk_on-grows, iterate-grows, Reads, reader_of-Reads, writer_of-Writes}
 use Rattle.std.proofs.Common.{◌≡◌, ℕ, ◌<◌, ◌≤◌, ◌⊎◌, max, ℤ, true, cond, eq-eqb, List, [], ◌∷◌, ◌++◌, length, map, Some, refl, sym, ap, ◌∙◌, subst, inl, inr, arith, length-append}
-use Rattle.std.proofs.lemmas.Bool.{cases_Bool, both_ways, eqb-true, or_left, or_right}
-use Rattle.std.proofs.lemmas.List.{get_or_default}
-use Rattle.std.proofs.lemmas.List.Elements.{Contains-push_cases}
-use Rattle.kpn_history.proofs.Common.{Said, Ending, IsPrefix, got_at, put_at, Process, Nobody, Empty, Full, Tables, instance_at, program_of, reader_of, writer_of, IsNetwork, Family, IsFamilyPrefix, AgreeOnIns, at_channel, ends_at_channel, ran_on, talk_on, ProcessCanSay, ProcessComesTo, iterate, IsPrefixOnSources, How, Event, WaitEmpty, WaitFull, Ended, is_of, last_event, said_in, talk_of, how_of, is_end_of, has_ended, read_in, written_on, read_on, fed, is_empty, is_full, wait_of_last, wait_of, wait_made, ending_of, Legal, HasStopped, IsHalt}
 use Rattle.kpn_lang.specs.declared.talk.Said.TheVariants as said
 use Rattle.kpn_lang.specs.declared.talk.Ending.TheVariants as ending
-use Rattle.kpn_lang.proofs.Prefixes.{IsPrefix-trans, IsPrefix-same, IsPrefix-refl, length_of_prefix, prefix_of_push, prefix_after}
-use Rattle.kpn_lang.proofs.Talks.{put_at-append, put_at-prefix}
-use Rattle.kpn_lang.proofs.Sequential.{IsSequential-alone}
-use Rattle.kpn_net.proofs.Cycles.{Contains-none}
-use Rattle.kpn_net.proofs.Monotone.{talk_on-grows, iterate-grows}
-use Rattle.kpn_net.proofs.Networks.{Reads, reader_of-Reads, writer_of-Writes}
 use Rattle.kpn_net.proofs.OwnIns.{CanSay-own_ins, ComesTo-own_ins, CanSay-longer, CanSay-comparable}
 use Rattle.kpn_history.specs.declared.event.How.TheVariants as how
 use Rattle.kpn_history.proofs.Events.{Some-event, last_event-own, last_event-other, flat_map-same, said_in-other, read_on-same}

@@ -1,16 +1,10 @@
 -- A process alone on families of lists. What it says last names a channel of its own. If it has come to an end, it says
 -- no more on longer lists.
-use Rattle.std.proofs.Common.{◌≡◌, ℕ, ◌<◌, max, ℤ, List, [], ◌∷◌, ◌++◌, length, get_or, map, refl, sym, ap, ◌∙◌, subst, arith}
-use Rattle.std.proofs.lemmas.List.{get_or-map}
-use Rattle.kpn_history.proofs.Common.{Said, Ending, IsPrefix, alone, IsFinal, Instance, Tables, instance_at, program_of, IsNetwork, Family, IsFamilyPrefix, at_channel, ends_at_channel, ran_on, talk_on, ProcessCanSay, ProcessComesTo}
+use Rattle.kpn_history.proofs.Common.{◌≡◌, ℕ, ◌<◌, max, ℤ, List, [], ◌∷◌, ◌++◌, length, get_or, map, refl, sym, ap, ◌∙◌, subst, arith, get_or-map, Said, Ending, IsPrefix, alone, IsFinal, Instance, Tables, instance_at, program_of, IsNetwork, Family, IsFamilyPrefix, at_channel, ends_at_channel, ran_on, talk_on, ProcessCanSay, ProcessComesTo, IsPrefix-trans, IsPrefix-same, IsSequential-alone, ArePrefixes-map, talk_on-grows, IsInstance-of, IsProgram-of, StandsAt, Reads, Writes}
 use Rattle.kpn_lang.specs.declared.talk.Said.TheVariants.{Got, Put}
 use Rattle.kpn_lang.specs.declared.talk.Ending.TheVariants.{Done, Faulted, Starved, Cut}
-use Rattle.kpn_lang.proofs.Prefixes.{IsPrefix-trans, IsPrefix-same}
 use Rattle.kpn_lang.proofs.Families.{added, Grows-from_prefixes, nil_from_grows}
-use Rattle.kpn_lang.proofs.Sequential.{IsSequential-alone}
 use Rattle.kpn_lang.proofs.Processes.{ends_alike}
-use Rattle.kpn_net.proofs.Monotone.{ArePrefixes-map, talk_on-grows}
-use Rattle.kpn_net.proofs.Networks.{IsInstance-of, IsProgram-of, StandsAt, Reads, Writes}
 use Rattle.kpn_net.proofs.Ports.{SaidNames, TalkNames, EndingNames, RanNames, alone-names}
 
 -- ---- what a process says names its channels

@@ -1,8 +1,5 @@
 -- What two runs that end alike have in common: their verdict and their complete channels.
-use Rattle.std.specs.Prelude.{Contains}
-use Rattle.std.proofs.Common.{◌≡◌, ℕ, ◌<◌, true, List, ◌∷◌, length, Some, refl, sym, ap, ◌∙◌, subst, inl, inr}
-use Rattle.kpn_history.proofs.Common.{End, Process, Source, Sink, Tables, writer_of, IsNetwork, Family, wait_at, IsCycle, full_channels, Event, Verdict, has_ended, wait_of, HasFullCycle, IsSettled, HasFullWait, IsVerdict, PutsNoMore, IsFinished, IsComplete, IsFinalRun, EndAlike}
-use Rattle.kpn_net.proofs.Networks.{Reads-reader_of, source-writer_of, source_there}
+use Rattle.kpn_history.proofs.Common.{Contains, ◌≡◌, ℕ, ◌<◌, true, List, ◌∷◌, length, Some, refl, sym, ap, ◌∙◌, subst, inl, inr, End, Process, Source, Sink, Tables, writer_of, IsNetwork, Family, wait_at, IsCycle, full_channels, Event, Verdict, has_ended, wait_of, HasFullCycle, IsSettled, HasFullWait, IsVerdict, PutsNoMore, IsFinished, IsComplete, IsFinalRun, EndAlike, Reads-reader_of, source-writer_of, source_there}
 use Rattle.kpn_history.specs.declared.state.Verdict.TheVariants as verdict
 use Rattle.kpn_history.proofs.EarlierWaits.{wait_at-waits_of}
 use Rattle.kpn_history.proofs.OwnWaits.{wait_on_empty}

@@ -1,8 +1,5 @@
 -- Views that agree with two runs that end alike are the same, where no sink was left.
-use Rattle.std.proofs.Common.{◌≡◌, ℕ, ◌<◌, Bool, true, false, not, List, length, map, get_or, count_by, refl, sym, ap, ◌∙◌, subst, inl, inr}
-use Rattle.std.proofs.lemmas.Bool.{both_ways, false_from_ne_true, false≢true}
-use Rattle.std.proofs.lemmas.List.{ext_get_or}
-use Rattle.kpn_history.proofs.Common.{End, Process, Source, Sink, Tables, reader_of, channel_numbers, Event, State, View, has_ended, written_on, read_on, is_left, lives, reader_lives, capacity_after, Legal, HaveStopped, IsStateOf, is_stopped, is_ready, is_held, waits_empty, waits_full, is_ended, Agrees, EndAlike}
+use Rattle.kpn_history.proofs.Common.{◌≡◌, ℕ, ◌<◌, Bool, true, false, not, List, length, map, get_or, count_by, refl, sym, ap, ◌∙◌, subst, inl, inr, both_ways, false_from_ne_true, false≢true, ext_get_or, End, Process, Source, Sink, Tables, reader_of, channel_numbers, Event, State, View, has_ended, written_on, read_on, is_left, lives, reader_lives, capacity_after, Legal, HaveStopped, IsStateOf, is_stopped, is_ready, is_held, waits_empty, waits_full, is_ended, Agrees, EndAlike}
 use Rattle.kpn_history.specs.declared.state.State.TheVariants.{Ready, Held, WaitsEmpty, WaitsFull, Ended}
 use Rattle.kpn_history.proofs.OwedSets.{same_capacity}
 use Rattle.kpn_history.proofs.SameEnds.{EndAlike-sym, same_waits, same_ended}

@@ -1,14 +1,9 @@
 -- Plain tests, and what follows from a yes of each: all numbers below one, members, and the way from one process to the
 -- next that it waits for.
-use Rattle.std.specs.Prelude.{nat_eq, Contains}
-use Rattle.std.proofs.Common.{◌≡◌, ℕ, zero, suc, ◌<◌, ◌+◌, inl, inr, Bool, true, false, ◌&&◌, List, [], ◌∷◌, length, Option, Some, None, refl, sym, ap, subst, ◌∙◌, arith}
+use Rattle.kpn_history.proofs.Common.{nat_eq, Contains, ◌≡◌, ℕ, zero, suc, ◌<◌, ◌+◌, inl, inr, Bool, true, false, ◌&&◌, List, [], ◌∷◌, length, Option, Some, None, refl, sym, ap, subst, ◌∙◌, arith, length-le_from_distinct_below, Contains-from_any, Wait, Tables, wait_at, awaited, WaitInTurn, AreDistinct, Contains-first, Contains-later, Contains-cases, Contains-none, awaited_below}
 use Rattle.std.specs.List.{list_any, AllByRecursion, IsDistinct}
 use Rattle.std.proofs.lemmas.Map.Keys.{IsDistinct-cons}
-use Rattle.std.proofs.lemmas.Map.Steps.{length-le_from_distinct_below}
-use Rattle.std.proofs.lemmas.Map.Views.{Contains-from_any}
 use Rattle.std.proofs.lemmas.Bool.{and_parts, and_cases, or_cases, or_parts, or_left, or_right, eqb-false, eqb-true, eq-eqb, ne_eqb, cases_eq, false_from_ne_true}
-use Rattle.kpn_history.proofs.Common.{Wait, Tables, wait_at, awaited, WaitInTurn, AreDistinct}
-use Rattle.kpn_net.proofs.Cycles.{Contains-first, Contains-later, Contains-cases, Contains-none, awaited_below}
 
 -- ---- all numbers below one
 

@@ -1,13 +1,8 @@
 -- Processes that stand still together: each of them rests, and waits for another of them or for what never comes. If a
 -- history has made no more of them than such processes made, then with one more event it has not either.
-use Rattle.std.proofs.Common.{◌≡◌, ℕ, zero, suc, ◌<◌, ◌≤◌, true, false, not, cond, eqb, List, [], ◌∷◌, ◌++◌, length, Option, Some, None, refl, sym, ap, ◌∙◌, subst, inl, inr, arith, length-append}
+use Rattle.kpn_history.proofs.Common.{◌≡◌, ℕ, zero, suc, ◌<◌, ◌≤◌, true, false, not, cond, eqb, List, [], ◌∷◌, ◌++◌, length, Option, Some, None, refl, sym, ap, ◌∙◌, subst, inl, inr, arith, length-append, cases_lt, cases_eq, eqb-true, both_ways, and_from, not-true, not_from_false, false_from_ne_true, le-leb, or_left, IsPrefix, got_at, put_at, End, Process, Source, Sink, Growth, Full, Tables, channel_at, capacity, grown_capacity, larger_capacity, writer_of, reader_of, IsNetwork, Family, Event, Put, WaitEmpty, WaitFull, Ended, Feed, talk_of, has_ended, written_in, written_on, read_on, unread_on, fed, is_close_of, is_closed, lives, reader_lives, after_growths, capacity_after, reaches, is_full, wait_of, Legal, PutsNoMore, IsFinished, IsComplete, growths_of, IsRunFrom, IsPrefix-trans, IsPrefix-same, IsPrefix-antisym, length_of_prefix, got_at-prefix, put_at-prefix, Writes, capacity_in_range, source-writer_of, writer_of-source, writer_of-Writes}
 use Rattle.std.specs.Option.{option_map}
-use Rattle.std.proofs.lemmas.Bool.{cases_lt, cases_eq, eqb-true, both_ways, and_from, not-true, not_from_false, false_from_ne_true, le-leb, or_left}
-use Rattle.kpn_history.proofs.Common.{IsPrefix, got_at, put_at, End, Process, Source, Sink, Growth, Full, Tables, channel_at, capacity, grown_capacity, larger_capacity, writer_of, reader_of, IsNetwork, Family, Event, Put, WaitEmpty, WaitFull, Ended, Feed, talk_of, has_ended, written_in, written_on, read_on, unread_on, fed, is_close_of, is_closed, lives, reader_lives, after_growths, capacity_after, reaches, is_full, wait_of, Legal, PutsNoMore, IsFinished, IsComplete, growths_of, IsRunFrom}
-use Rattle.kpn_lang.proofs.Prefixes.{IsPrefix-trans, IsPrefix-same, IsPrefix-antisym, length_of_prefix}
-use Rattle.kpn_lang.proofs.Talks.{got_at-prefix, put_at-prefix}
 use Rattle.kpn_net.specs.declared.tables.Growth.TheVariants.{One, Double}
-use Rattle.kpn_net.proofs.Networks.{Writes, capacity_in_range, source-writer_of, writer_of-source, writer_of-Writes}
 use Rattle.kpn_history.proofs.Events.{written_on-push, written_on-grows, written_on-same, read_on-same}
 use Rattle.kpn_history.proofs.Legality.{Legal-before}
 use Rattle.kpn_history.proofs.AfterEvent.{is_closed-next}

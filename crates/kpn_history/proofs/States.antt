@@ -1,9 +1,6 @@
 -- The state of a process. It has stopped if its process has ended or is blocked, and it is one except for ready and
 -- held.
-use Rattle.std.proofs.Common.{◌≡◌, ◌↔◌, ◌⊎◌, ℕ, zero, suc, ◌<◌, true, false, cond, List, [], ◌∷◌, length, get_or, count_by, refl, sym, ap, ◌∙◌, inl, inr, arith}
-use Rattle.std.proofs.lemmas.Bool.{both_ways, false≢true}
-use Rattle.std.proofs.lemmas.List.Sums.{sum_by-cons}
-use Rattle.kpn_history.proofs.Common.{Wait, Nobody, Empty, Full, Tables, Event, How, State, View, has_ended, wait_of, HasStopped, HaveStopped, IsStateOf, is_stopped, is_ready, is_held, Agrees, Legal}
+use Rattle.kpn_history.proofs.Common.{◌≡◌, ◌↔◌, ◌⊎◌, ℕ, zero, suc, ◌<◌, true, false, cond, List, [], ◌∷◌, length, get_or, count_by, refl, sym, ap, ◌∙◌, inl, inr, arith, both_ways, false≢true, sum_by-cons, Wait, Nobody, Empty, Full, Tables, Event, How, State, View, has_ended, wait_of, HasStopped, HaveStopped, IsStateOf, is_stopped, is_ready, is_held, Agrees, Legal}
 use Rattle.kpn_history.specs.declared.state.State.TheVariants.{Ready, Held, WaitsEmpty, WaitsFull, Ended}
 use Rattle.kpn_history.proofs.EndsOnce.{ended_by, ends_one_way}
 

@@ -1,12 +1,6 @@
 -- What a stop depends on. Ended is quiet, jammed is at the limit, and clogged waits for blocked processes. No event but
 -- a leave can follow.
-use Rattle.std.specs.Prelude.{Contains}
-use Rattle.std.specs.Option.{unwrap_or}
-use Rattle.std.proofs.Common.{◌≡◌, ◌≢◌, ℕ, suc, ℤ, ◌<◌, ◌≤◌, true, false, not, List, [], ◌∷◌, ◌++◌, length, Option, Some, None, refl, sym, ap, ◌∙◌, subst, inl, inr, arith}
-use Rattle.std.proofs.lemmas.Bool.{and_parts, both_ways, cases_lt, not-true, eqb-true, false≢true}
-use Rattle.kpn_history.proofs.Common.{Wait, Nobody, Empty, Full, End, Process, Source, Sink, Tables, reader_of, IsNetwork, awaited, process_at, Event, Get, Put, WaitEmpty, WaitFull, Ended, Feed, Close, Take, Leave, Grow, Verdict, has_ended, last_event, unread_on, lives, reader_lives, reaches, capacity_after, is_full, is_left, wait_of, waits_of, full_in_cycle, HasFullCycle, CanGo, MayFeed, MayTake, Legal, WaitsOnFull, IsQuiet, IsSettled, IsVerdict, IsOldest, OwesNothing, IsJammedAtLimit, WaitsForBlocked}
-use Rattle.kpn_net.proofs.Networks.{Reads-reader_of, Reads-below, sink-reader_of, sink_there}
-use Rattle.kpn_net.proofs.Cycles.{full_at, cycle_below}
+use Rattle.kpn_history.proofs.Common.{Contains, unwrap_or, ◌≡◌, ◌≢◌, ℕ, suc, ℤ, ◌<◌, ◌≤◌, true, false, not, List, [], ◌∷◌, ◌++◌, length, Option, Some, None, refl, sym, ap, ◌∙◌, subst, inl, inr, arith, and_parts, both_ways, cases_lt, not-true, eqb-true, false≢true, Wait, Nobody, Empty, Full, End, Process, Source, Sink, Tables, reader_of, IsNetwork, awaited, process_at, Event, Get, Put, WaitEmpty, WaitFull, Ended, Feed, Close, Take, Leave, Grow, Verdict, has_ended, last_event, unread_on, lives, reader_lives, reaches, capacity_after, is_full, is_left, wait_of, waits_of, full_in_cycle, HasFullCycle, CanGo, MayFeed, MayTake, Legal, WaitsOnFull, IsQuiet, IsSettled, IsVerdict, IsOldest, OwesNothing, IsJammedAtLimit, WaitsForBlocked, Reads-reader_of, Reads-below, sink-reader_of, sink_there, full_at, cycle_below}
 use Rattle.kpn_history.specs.declared.state.Verdict.TheVariants as verdict
 use Rattle.kpn_history.proofs.Legality.{Legal-last}
 use Rattle.kpn_history.proofs.Capacities.{in_limit}

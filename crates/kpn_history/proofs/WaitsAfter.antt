@@ -1,9 +1,7 @@
 -- What each process is blocked on after one more event of a legal history. Only a wait of its own blocks a process
 -- again: nobody else reads the channel that it waits on as empty, or writes the one that it waits on as full.
 use Rattle.std.proofs.Common.{◌≡◌, ℕ, Bool, true, false, cond, ◌&&◌, ◌||◌, eqb, eq-eqb, List, [], ◌∷◌, ◌++◌, length, Option, Some, None, refl, sym, ap, ◌∙◌, subst, inl, inr, arith, drop}
-use Rattle.std.proofs.lemmas.Bool.{cases_Bool, both_ways, false_from_ne_true, and_parts, and_from, or_cases, cond_both, eqb-true, leb-true, le-leb, false≢true}
-use Rattle.kpn_history.proofs.Common.{Wait, Nobody, Empty, Full, Process, Tables, reader_of, writer_of, IsNetwork, Event, Get, Put, WaitEmpty, WaitFull, Ended, Feed, is_of, last_event, is_end_of, has_ended, written_in, read_in, written_on, read_on, unread_on, is_growth_of, reader_lives, capacity_after, reaches, is_empty, is_full, lasting_wait, wait_of_last, wait_of, wait_made, wait_kept, wait_after, MayFollow, Legal, takes_reader}
-use Rattle.kpn_net.proofs.Networks.{reader_of-Reads, writer_of-Writes}
+use Rattle.kpn_history.proofs.Common.{cases_Bool, both_ways, false_from_ne_true, and_parts, and_from, or_cases, cond_both, eqb-true, leb-true, le-leb, false≢true, Wait, Nobody, Empty, Full, Process, Tables, reader_of, writer_of, IsNetwork, Event, Get, Put, WaitEmpty, WaitFull, Ended, Feed, is_of, last_event, is_end_of, has_ended, written_in, read_in, written_on, read_on, unread_on, is_growth_of, reader_lives, capacity_after, reaches, is_empty, is_full, lasting_wait, wait_of_last, wait_of, wait_made, wait_kept, wait_after, MayFollow, Legal, takes_reader, reader_of-Reads, writer_of-Writes}
 use Rattle.kpn_history.proofs.Events.{Some-event, last_event-own, last_event-other, has_ended-push, written_on-same, read_on-same}
 use Rattle.kpn_history.proofs.Legality.{Legal-before, Legal-last, by_events}
 use Rattle.kpn_history.proofs.Ownership.{Owns, Owns-last}

@@ -2,10 +2,7 @@
 -- empty channel ends with an item there. On a full channel whose reader lives, exactly as many items are unread as its
 -- capacity. So one item less, or a capacity of one more, ends a wait there.
 use Rattle.std.proofs.Common.{◌≡◌, ◌↔◌, ℕ, suc, ℤ, ◌<◌, Bool, true, false, not, ◌&&◌, cond, eqb, eq-eqb, List, [], ◌∷◌, ◌++◌, length, refl, sym, ap, ◌∙◌, subst, inl, inr, arith}
-use Rattle.std.proofs.lemmas.Bool.{cases_eq, false_from_ne_true, and_parts, false≢true, eqb-true, ne_eqb}
-use Rattle.kpn_lang.proofs.Prefixes.{length_of_prefix}
-use Rattle.kpn_history.proofs.Common.{Wait, Nobody, Empty, Full, End, Process, Source, Sink, Tables, writer_of, reader_of, IsNetwork, IsOwnWait, How, Event, Get, Put, WaitEmpty, WaitFull, Ended, Feed, Close, Take, Leave, Grow, is_of, written_in, read_in, written_on, read_on, unread_on, reader_lives, is_growth_of, capacity_after, reaches, is_empty, is_full, wait_of, wait_made, wait_kept, is_process, wakes_reader, wakes_writer, wakes, wait_then, WaitsAsFullFor, IsWoken, EndsNobody, takes_reader, takes_end, IsOldest, IsConsistent, Legal}
-use Rattle.kpn_net.proofs.Networks.{reader_of-sink}
+use Rattle.kpn_history.proofs.Common.{cases_eq, false_from_ne_true, and_parts, false≢true, eqb-true, ne_eqb, length_of_prefix, Wait, Nobody, Empty, Full, End, Process, Source, Sink, Tables, writer_of, reader_of, IsNetwork, IsOwnWait, How, Event, Get, Put, WaitEmpty, WaitFull, Ended, Feed, Close, Take, Leave, Grow, is_of, written_in, read_in, written_on, read_on, unread_on, reader_lives, is_growth_of, capacity_after, reaches, is_empty, is_full, wait_of, wait_made, wait_kept, is_process, wakes_reader, wakes_writer, wakes, wait_then, WaitsAsFullFor, IsWoken, EndsNobody, takes_reader, takes_end, IsOldest, IsConsistent, Legal, reader_of-sink}
 use Rattle.kpn_history.proofs.Legality.{Legal-before, Legal-consistent}
 use Rattle.kpn_history.proofs.Ownership.{Owns-last}
 use Rattle.kpn_history.proofs.Journals.{none_elsewhere, read_in-other, reads_begin_writes}

@@ -1,20 +1,7 @@
 -- A run says only what it got from its lists, and depends on nothing else. Whatever puts runs together keeps each law,
 -- so the run of a tree keeps it.
-use Rattle.std.proofs.Common.{◌≡◌, ℕ, zero, suc, ◌+◌, ℤ, cond, Bool, true, false, Result, Ok, Err, List, [], ◌∷◌, ◌++◌, set, refl, sym, ap, ◌∙◌, inl, inr, eq-eqb}
-use Rattle.std.specs.Prelude.{unsigned_abs}
-use Rattle.std.proofs.lemmas.Bool.{cases_eq, ne_eqb}
-use Rattle.kpn_lang.specs.declared.value.Fault.{Fault}
-use Rattle.kpn_lang.specs.declared.talk.Said.{Said}
-use Rattle.kpn_lang.specs.declared.talk.Said.TheVariants.{Got, Put}
-use Rattle.kpn_lang.specs.declared.talk.Ending.{Ending}
-use Rattle.kpn_lang.specs.declared.talk.Ending.TheVariants.{Faulted, Cut}
-use Rattle.kpn_lang.specs.Syntax.{Term}
-use Rattle.kpn_lang.specs.Value.{value, is_zero, index_in, ◌>>=◌}
+use Rattle.kpn_lang.proofs.Common.{◌≡◌, ℕ, zero, suc, ◌+◌, ℤ, cond, Bool, true, false, Result, Ok, Err, List, [], ◌∷◌, ◌++◌, set, refl, sym, ap, ◌∙◌, inl, inr, eq-eqb, unsigned_abs, cases_eq, ne_eqb, Fault, Said, Got, Put, Ending, Faulted, Cut, Term, value, is_zero, index_in, ◌>>=◌, Ran, Next, Lists, list_at, ends, says, with_value, with_item, choose, turns, run, IsPrefix, got_at, BeginsWithGot}
 use Rattle.kpn_lang.specs.Tree.{Tree, End, Assign, Read, Write, If, While, Set}
-use Rattle.kpn_lang.specs.Run.{Ran, Next, Lists, list_at, ends, says, with_value, with_item, choose, turns, run}
-use Rattle.kpn_lang.specs.Prefix.{IsPrefix}
-use Rattle.kpn_lang.specs.Alone.{got_at}
-use Rattle.kpn_lang.specs.Laws.{BeginsWithGot}
 use Rattle.kpn_lang.proofs.Families.{port_is_there, list_at-set_same, list_at-set_other}
 
 -- ---- what a talk got

@@ -1,10 +1,5 @@
 -- Families of lists that grow: which items come after them, and what a read leaves of them.
-use Rattle.std.proofs.Common.{◌≡◌, ℕ, ◌<◌, ℤ, List, [], ◌∷◌, ◌++◌, length, set, sym, ap, ◌∙◌, inl, inr, get_or-set_same, get_or-set_other}
-use Rattle.std.proofs.lemmas.List.{get_or_past, append-nil, append_cancel_left}
-use Rattle.std.proofs.lemmas.Bool.{cases_lt, cases_eq}
-use Rattle.kpn_lang.specs.Run.{Lists, list_at}
-use Rattle.kpn_lang.specs.Prefix.{ArePrefixes}
-use Rattle.kpn_lang.specs.Laws.{Grows}
+use Rattle.kpn_lang.proofs.Common.{◌≡◌, ℕ, ◌<◌, ℤ, List, [], ◌∷◌, ◌++◌, length, set, sym, ap, ◌∙◌, inl, inr, get_or-set_same, get_or-set_other, get_or_past, append-nil, append_cancel_left, cases_lt, cases_eq, Lists, list_at, ArePrefixes, Grows}
 use Rattle.kpn_lang.proofs.Prefixes.{IsPrefix-from_rest, rest_of_prefix}
 
 -- no items after any list

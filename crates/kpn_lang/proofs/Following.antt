@@ -1,13 +1,7 @@
 -- How the parts of a run follow one another: a statement after the other, a turn after the other.
-use Rattle.std.proofs.Common.{◌≡◌, ℕ, zero, suc, ℤ, Bool, true, false, cond, not, Result, Ok, Err, Some, None, List, [], ◌∷◌, refl, ap, ◌∙◌, arith}
-use Rattle.kpn_lang.specs.declared.value.Fault.{Fault}
-use Rattle.kpn_lang.specs.declared.talk.Ending.{Ending}
-use Rattle.kpn_lang.specs.declared.talk.Ending.TheVariants.{Faulted, Cut}
-use Rattle.kpn_lang.specs.Syntax.{Term, Statement}
+use Rattle.kpn_lang.proofs.Common.{◌≡◌, ℕ, zero, suc, ℤ, Bool, true, false, cond, not, Result, Ok, Err, Some, None, List, [], ◌∷◌, refl, ap, ◌∙◌, arith, Fault, Ending, Faulted, Cut, Term, Statement, value, is_zero, Ran, Next, Lists, ends, with_value, choose, turns, run}
 use Rattle.kpn_lang.specs.Syntax as syntax
-use Rattle.kpn_lang.specs.Value.{value, is_zero}
 use Rattle.kpn_lang.specs.Tree.{Tree, tree_over}
-use Rattle.kpn_lang.specs.Run.{Ran, Next, Lists, ends, with_value, choose, turns, run}
 use Rattle.kpn_lang.specs.Plain.{Standing, said_before, goes_on, holds, LeadsTo}
 
 pub LeadsTo-refl : (part : Next → Next) (here : Standing) → LeadsTo part part here here

@@ -1,17 +1,7 @@
 -- With longer lists and more turns a run goes further. With only more turns, one that was not cut stays the same.
 -- Whatever puts runs together keeps each law, so the run of a tree keeps it.
-use Rattle.std.proofs.Common.{◌≡◌, ◌≢◌, ℕ, zero, suc, ◌+◌, ◌≤◌, ℤ, cond, Bool, true, false, Result, Ok, Err, List, [], ◌∷◌, ◌++◌, set, refl, ap, arith}
-use Rattle.std.specs.Prelude.{unsigned_abs}
-use Rattle.kpn_lang.specs.declared.value.Fault.{Fault}
-use Rattle.kpn_lang.specs.declared.talk.Said.{Said}
-use Rattle.kpn_lang.specs.declared.talk.Said.TheVariants.{Got, Put}
-use Rattle.kpn_lang.specs.declared.talk.Ending.{Ending}
-use Rattle.kpn_lang.specs.declared.talk.Ending.TheVariants.{Faulted, Cut}
-use Rattle.kpn_lang.specs.Syntax.{Term}
-use Rattle.kpn_lang.specs.Value.{value, is_zero, index_in, ◌>>=◌}
+use Rattle.kpn_lang.proofs.Common.{◌≡◌, ◌≢◌, ℕ, zero, suc, ◌+◌, ◌≤◌, ℤ, cond, Bool, true, false, Result, Ok, Err, List, [], ◌∷◌, ◌++◌, set, refl, ap, arith, unsigned_abs, Fault, Said, Got, Put, Ending, Faulted, Cut, Term, value, is_zero, index_in, ◌>>=◌, Ran, Next, Lists, list_at, ends, says, with_value, with_item, choose, turns, run, Grows, GoesOn}
 use Rattle.kpn_lang.specs.Tree.{Tree, End, Assign, Read, Write, If, While, Set}
-use Rattle.kpn_lang.specs.Run.{Ran, Next, Lists, list_at, ends, says, with_value, with_item, choose, turns, run}
-use Rattle.kpn_lang.specs.Laws.{Grows, GoesOn}
 use Rattle.kpn_lang.proofs.Families.{Grows-read}
 
 -- ---- further

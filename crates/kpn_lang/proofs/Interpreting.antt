@@ -1,18 +1,9 @@
 -- The steps of the plain program: why its calls go to greater block numbers, and what a block has done after one
 -- statement more and a loop after one turn more.
-use Rattle.std.proofs.Common.{◌≡◌, ℕ, suc, ◌+◌, ◌-◌, ◌*◌, ◌<◌, ◌≤◌, max, true, Ok, Some, None, List, [], ◌∷◌, length, get_or, drop, refl, sym, ap, ◌∙◌, arith, lt-ltb}
-use Rattle.std.proofs.lemmas.List.{drop_more, get_or-map, length-map}
-use Rattle.std.proofs.lemmas.Bool.{and_from}
-use Rattle.std.proofs.lemmas.Bool.Decides.{nat_tests}
+use Rattle.kpn_lang.proofs.Common.{◌≡◌, ℕ, suc, ◌+◌, ◌-◌, ◌*◌, ◌<◌, ◌≤◌, max, true, Ok, Some, None, List, [], ◌∷◌, length, get_or, drop, refl, sym, ap, ◌∙◌, arith, lt-ltb, drop_more, get_or-map, length-map, and_from, nat_tests, Stmt, Ending, value, Parts, IsProgram, names_its_own, names_ports_below, statements_of, Next, run, turns}
 use Rattle.std.specs.Prelude.{nat_le}
-use Rattle.kpn_lang.specs.declared.syntax.Stmt.{Stmt}
-use Rattle.kpn_lang.specs.declared.talk.Ending.{Ending}
 use Rattle.kpn_lang.specs.Syntax.{Term, Statement, Assign, Read, Write, If, While, Set, statement_of, lies_within}
-use Rattle.kpn_lang.specs.Value.{value}
-use Rattle.kpn_lang.specs.Parts.{Parts, IsProgram, names_its_own, names_ports_below}
-use Rattle.kpn_lang.specs.View.{statements_of}
 use Rattle.kpn_lang.specs.Tree.{Tree, block_at, tree_of, tree_over}
-use Rattle.kpn_lang.specs.Run.{Next, run, turns}
 use Rattle.kpn_lang.specs.Plain.{Standing, goes_on, holds, LeadsTo, MayRun}
 use Rattle.kpn_lang.proofs.Programs.{KeepsRules, rules_read, tree_of_block}
 use Rattle.kpn_lang.proofs.Following.{LeadsTo-refl, LeadsTo-trans, LeadsTo-next, LeadsTo-next_ends, LeadsTo-turn, LeadsTo-turn_ends}

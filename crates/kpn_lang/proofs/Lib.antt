@@ -1,3 +1,4 @@
+pub mod Common
 pub mod Alike
 pub mod Cells
 pub mod Chains

@@ -1,7 +1,5 @@
 -- Lists that are compared pair by pair.
-use Rattle.std.proofs.Common.{◌≡◌, ℕ, zero, suc, ◌<◌, Bool, true, false, List, [], ◌∷◌, length, map, refl, arith}
-use Rattle.std.specs.Prelude.{◌↔◌, IsTrue, MatchBool}
-use Rattle.std.specs.List.{zip, AllWithin, HoldsAt}
+use Rattle.kpn_lang.proofs.Common.{◌≡◌, ℕ, zero, suc, ◌<◌, Bool, true, false, List, [], ◌∷◌, length, map, refl, arith, ◌↔◌, IsTrue, MatchBool, zip, AllWithin, HoldsAt}
 
 module _ {X Y : Type 0} (f : X → Y) where
   -- a pair of two that look alike

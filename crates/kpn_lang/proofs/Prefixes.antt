@@ -1,7 +1,6 @@
 -- What holds of beginnings of lists. `IsPrefix` computes by recursion on both lists, so the lists are explicit
 -- arguments.
-use Rattle.std.proofs.Common.{◌≡◌, ◌≤◌, ◌⊎◌, List, [], ◌∷◌, ◌++◌, length, refl, sym, ◌∙◌, inl, inr, arith}
-use Rattle.kpn_lang.specs.Prefix.{IsPrefix}
+use Rattle.kpn_lang.proofs.Common.{◌≡◌, ◌≤◌, ◌⊎◌, List, [], ◌∷◌, ◌++◌, length, refl, sym, ◌∙◌, inl, inr, arith, IsPrefix}
 
 pub IsPrefix-refl : {A : Type 0} (xs : List A) → IsPrefix xs xs
 IsPrefix-refl [] = tt

@@ -1,13 +1,5 @@
 -- The laws of a sequential process in the words of what it can say and what it comes to.
-use Rattle.std.proofs.Common.{◌≡◌, ℕ, ◌≤◌, ◌⊎◌, max, ℤ, List, sym, ap, ◌∙◌, arith}
-use Rattle.kpn_lang.specs.declared.value.Fault.{Fault}
-use Rattle.kpn_lang.specs.declared.talk.Said.{Said}
-use Rattle.kpn_lang.specs.declared.talk.Ending.{Ending}
-use Rattle.kpn_lang.specs.declared.talk.Ending.TheVariants.{Done, Faulted, Starved}
-use Rattle.kpn_lang.specs.Run.{Lists, list_at}
-use Rattle.kpn_lang.specs.Prefix.{IsPrefix, ArePrefixes}
-use Rattle.kpn_lang.specs.Alone.{Process, CanSay, ComesTo, got_at}
-use Rattle.kpn_lang.specs.Laws.{Grows, IsFinal, EndsAlike, BeginsWithGot, IsSequential}
+use Rattle.kpn_lang.proofs.Common.{◌≡◌, ℕ, ◌≤◌, ◌⊎◌, max, ℤ, List, sym, ap, ◌∙◌, arith, Fault, Said, Ending, Done, Faulted, Starved, Lists, list_at, IsPrefix, ArePrefixes, Process, CanSay, ComesTo, got_at, Grows, IsFinal, EndsAlike, BeginsWithGot, IsSequential}
 use Rattle.kpn_lang.proofs.Prefixes.{IsPrefix-trans, IsPrefix-same, IsPrefix-append, prefixes_of_one}
 use Rattle.kpn_lang.proofs.Talks.{got_at-prefix}
 use Rattle.kpn_lang.proofs.Families.{nothing, Grows-refl, added, Grows-from_prefixes, nil_from_grows}

@@ -1,22 +1,11 @@
 -- What it means for the blocks and statements of a program that it keeps the rules, for the layers above.
-use Rattle.std.proofs.Common.{◌≡◌, ℕ, zero, suc, ◌+◌, ◌<◌, ◌≤◌, Bool, true, false, not, ◌&&◌, ◌||◌, cond, List, [], ◌∷◌, ◌++◌, length, max, Option, Some, None, refl, sym, ◌∙◌, ap, subst, arith, inl, inr, eqb}
+use Rattle.kpn_lang.proofs.Common.{◌≡◌, ℕ, zero, suc, ◌+◌, ◌<◌, ◌≤◌, Bool, true, false, not, ◌&&◌, ◌||◌, cond, List, [], ◌∷◌, ◌++◌, length, max, Option, Some, None, refl, sym, ◌∙◌, ap, subst, arith, inl, inr, eqb, bytes_decides, option_and_then, nat_tests, cases_lt, get_or_past, same_Some, option_and_then_some, slice_get-get_or, MAX_VARIABLES, MAX_CELLS, MAX_PORTS, MAX_LEVELS, TooMany, NoSuchBlock, BlockOrder, NoSuchVar, NoSuchPort, TooDeep, Parts, IsProgram, inner_blocks, children, order_to, is_in_order, is_within, is_too_large, names_from, lacks_a_block, each_statement, is_there, names_its_own, names_ports_below, nests_too_deep, count_through, vars_with}
 use Rattle.std.specs.Prelude.{nat_lt, nat_le, slice_index_or, slice_get}
 use Rattle.std.specs.List.{list_any, list_all, flat_map, range_with_len, AllByRecursion as Each}
-use Rattle.std.specs.Cmp.Lexicographic.{bytes_decides}
-use Rattle.std.specs.Option.{option_and_then}
-use Rattle.std.proofs.lemmas.Bool.Decides.{nat_tests}
-use Rattle.std.proofs.lemmas.Bool.{cases_lt}
-use Rattle.std.proofs.lemmas.List.{get_or_past}
-use Rattle.std.proofs.lemmas.Option.{same_Some, option_and_then_some, slice_get-get_or}
-use Rattle.kpn_limits.specs.declared.TheConstants.{MAX_VARIABLES, MAX_CELLS, MAX_PORTS, MAX_LEVELS}
 use Rattle.kpn_lang.specs.declared.program.ProgramFault.{ProgramFault}
-use Rattle.kpn_lang.specs.declared.program.ProgramFault.TheVariants.{TooMany, NoSuchBlock, BlockOrder, NoSuchVar, NoSuchPort, TooDeep}
 use Rattle.kpn_lang.specs.Syntax.{Term, Statement, Assign, Read, Write, If, While, Set, lies_within}
 use Rattle.kpn_lang.specs.Tree as tree
 use Rattle.kpn_lang.specs.Tree.{Tree, End, tree_over, block_at, tree_to, tree_of}
-use Rattle.kpn_lang.specs.Parts.{Parts, IsProgram, inner_blocks, children, order_to, is_in_order, is_within, is_too_large, names_from, lacks_a_block, each_statement, is_there, names_its_own, names_ports_below, nests_too_deep}
-use Rattle.kpn_lang.specs.Counting.{count_through}
-use Rattle.kpn_lang.specs.View.{vars_with}
 
 -- ---- the rules one by one
 

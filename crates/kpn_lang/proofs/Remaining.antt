@@ -1,12 +1,6 @@
 -- What remains of lists at places, and how a read moves a place on.
-use Rattle.std.proofs.Common.{◌≡◌, ℕ, zero, suc, ◌+◌, ◌≤◌, ◌<◌, ℤ, List, [], ◌∷◌, length, replicate, set, get_or, drop, Some, None, refl, sym, ap, ◌∙◌, arith}
-use Rattle.std.proofs.lemmas.List.{drop-drop, drop_all, set-get_or, get_or_read}
-use Rattle.std.proofs.lemmas.Option.{slice_get_past, slice_get_read}
+use Rattle.kpn_lang.proofs.Common.{◌≡◌, ℕ, zero, suc, ◌+◌, ◌≤◌, ◌<◌, ℤ, List, [], ◌∷◌, length, replicate, set, get_or, drop, Some, None, refl, sym, ap, ◌∙◌, arith, drop-drop, drop_all, set-get_or, get_or_read, slice_get_past, slice_get_read, Said, Lists, list_at, remaining, next_at, without_next, Standing}
 use Rattle.std.specs.Prelude.{slice_get}
-use Rattle.kpn_lang.specs.declared.talk.Said.{Said}
-use Rattle.kpn_lang.specs.Run.{Lists, list_at}
-use Rattle.kpn_lang.specs.Lists.{remaining, next_at, without_next}
-use Rattle.kpn_lang.specs.Plain.{Standing}
 
 pub length-remaining : (lists : Lists) (places : List ℕ) → length places ≡ length lists →
     length (remaining lists places) ≡ length lists

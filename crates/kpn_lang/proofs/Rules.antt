@@ -1,21 +1,9 @@
 -- What the code's tests of the rules compute, in steps as the code takes them.
-use Rattle.std.proofs.Common.{◌≡◌, ℕ, zero, suc, ◌+◌, ◌<◌, Bool, true, false, not, ◌&&◌, ◌||◌, cond, List, [], ◌∷◌, ◌++◌, length, Option, Some, None, refl, sym, ◌∙◌, ap, arith, map, drop, get_or, zero-add}
+use Rattle.kpn_lang.proofs.Common.{◌≡◌, ℕ, zero, suc, ◌+◌, ◌<◌, Bool, true, false, not, ◌&&◌, ◌||◌, cond, List, [], ◌∷◌, ◌++◌, length, Option, Some, None, refl, sym, ◌∙◌, ap, arith, map, drop, get_or, zero-add, list_any, list_all, flat_map, range_with_len, nat_tests, pointwise, slice_get-map, slice_get-get_or, option_and_then, option_map, Vec, Stmt, Term, Num, Var, Neg, Not, BitNot, Bin, Choice, Cell, Statement, statement_of, block_at, statements_of, blocks_of, Parts, nodes, depth, each_statement, inner_blocks, order_to, is_in_order, lacks_a_block, names_from, count_through}
 use Rattle.std.specs.Prelude.{nat_eq, nat_lt, nat_le, slice_get}
-use Rattle.std.specs.List.{list_any, list_all, flat_map, range_with_len}
-use Rattle.std.proofs.lemmas.Bool.Decides.{nat_tests}
-use Rattle.std.specs.Cmp.Lexicographic.{pointwise}
 use Rattle.std.proofs.lemmas.List.Folds.{list_all-map, list_all-append, list_any-append}
 use Rattle.std.proofs.lemmas.List.{drop_more, append_assoc, append-nil, get_or-map, length-map}
-use Rattle.std.proofs.lemmas.Option.{slice_get-map, slice_get-get_or}
-use Rattle.std.specs.Option.{option_and_then, option_map}
-use Rattle.std.specs.Global.{Vec}
-use Rattle.kpn_lang.specs.declared.syntax.Stmt.{Stmt}
-use Rattle.kpn_lang.specs.Syntax.{Term, Num, Var, Neg, Not, BitNot, Bin, Choice, Cell, Statement, statement_of}
 use Rattle.kpn_lang.proofs.Programs.{count_through-append, neither, any_at, any_blocks}
-use Rattle.kpn_lang.specs.Tree.{block_at}
-use Rattle.kpn_lang.specs.View.{statements_of, blocks_of}
-use Rattle.kpn_lang.specs.Parts.{Parts, nodes, depth, each_statement, inner_blocks, order_to, is_in_order, lacks_a_block, names_from}
-use Rattle.kpn_lang.specs.Counting.{count_through}
 
 -- an expression is at least one level deep
 pub no_depth_at_zero : (e : Term) → nat_le (depth e) 0 ≡ false

@@ -1,12 +1,6 @@
 -- A run is a sequential process wherever what follows it is one.
-use Rattle.std.proofs.Common.{ℕ, ◌≤◌, ℤ, List, refl}
-use Rattle.kpn_lang.specs.declared.talk.Ending.{Ending}
-use Rattle.kpn_lang.specs.declared.talk.Ending.TheVariants.{Done}
-use Rattle.kpn_lang.specs.Parts.{Parts}
+use Rattle.kpn_lang.proofs.Common.{ℕ, ◌≤◌, ℤ, List, refl, Ending, Done, Parts, Next, ends, run, start_of, alone, IsSequential}
 use Rattle.kpn_lang.specs.Tree.{Tree, tree_of}
-use Rattle.kpn_lang.specs.Run.{Next, ends, run}
-use Rattle.kpn_lang.specs.Alone.{start_of, alone}
-use Rattle.kpn_lang.specs.Laws.{IsSequential}
 use Rattle.kpn_lang.proofs.Further.{Follows, Follows-run, GoesOn-ends, Stays, Stays-run}
 use Rattle.kpn_lang.proofs.Alike.{AccountsNext, Accounts-run, LocalNext, Local-run, SaysAlike-silent}
 

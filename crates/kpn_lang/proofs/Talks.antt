@@ -1,9 +1,5 @@
 -- What a talk got and put, of talks one after the other and of beginnings.
-use Rattle.std.proofs.Common.{◌≡◌, ℕ, ℤ, cond, eqb, Bool, true, false, List, [], ◌∷◌, ◌++◌, refl, ap}
-use Rattle.kpn_lang.specs.declared.talk.Said.{Said}
-use Rattle.kpn_lang.specs.declared.talk.Said.TheVariants.{Got, Put}
-use Rattle.kpn_lang.specs.Prefix.{IsPrefix}
-use Rattle.kpn_lang.specs.Alone.{got_at, put_at}
+use Rattle.kpn_lang.proofs.Common.{◌≡◌, ℕ, ℤ, cond, eqb, Bool, true, false, List, [], ◌∷◌, ◌++◌, refl, ap, Said, Got, Put, IsPrefix, got_at, put_at}
 use Rattle.kpn_lang.proofs.Prefixes.{rest_of_prefix, IsPrefix-append}
 
 -- an item that counts or not, before what follows

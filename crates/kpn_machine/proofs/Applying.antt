@@ -1,15 +1,8 @@
 -- An event is due exactly if the stop of its process asks for it and its channel is ready.
-use Rattle.std.proofs.Common.{◌≡◌, ◌≢◌, ℕ, true, ℤ, refl, subst}
+use Rattle.kpn_machine.proofs.Common.{◌≡◌, ◌≢◌, ℕ, true, ℤ, refl, subst, Tables, instance_at, program_of, Stop, WantRead, WantWrite, Paused, Event, is_of, Machine, frame_in, Stands, StandsFree, ReadsFrom, WritesTo, stop_of, IsDueNow, IsReadAt, IsWriteAt, AsksFor, IsReady}
 use Rattle.std.specs.Prelude.{◌↔◌}
 use Rattle.std.proofs.lemmas.Bool.{eq-eqb}
-use Rattle.kpn_net.specs.Tables.{Tables, instance_at, program_of}
-use Rattle.kpn_step.specs.declared.stop.Stop.{Stop}
-use Rattle.kpn_step.specs.declared.stop.Stop.TheVariants.{WantRead, WantWrite, Paused}
-use Rattle.kpn_history.specs.declared.event.Event.{Event}
 use Rattle.kpn_history.specs.declared.event.Event.TheVariants.{Get, Put, WaitEmpty, WaitFull, Ended}
-use Rattle.kpn_history.specs.Talks.{is_of}
-use Rattle.kpn_machine.specs.Machine.{Machine, frame_in}
-use Rattle.kpn_machine.specs.Due.{Stands, StandsFree, ReadsFrom, WritesTo, stop_of, IsDueNow, IsReadAt, IsWriteAt, AsksFor, IsReady}
 use Rattle.kpn_machine.proofs.Due.{end_is_no_pause}
 use Rattle.kpn_machine.proofs.OneStop.{one_stop}
 

@@ -1,32 +1,9 @@
 -- What each call does to a machine: its parts change as the call's event changes them.
 use Rattle.std.proofs.Common.{◌≡◌, ◌≢◌, ℕ, ◌+◌, ◌<◌, Bool, true, false, ◌||◌, ℤ, eqb, eq-eqb, IsTrue, List, [], ◌∷◌, ◌++◌, length, get_or, slice_set, Option, Some, refl, sym, ap, ◌∙◌, subst, inl, inr, arith, append-nil, add-zero, length-set}
 use Rattle.std.proofs.lemmas.Bool.{cases_eq, ne_eqb, eqb-true}
-use Rattle.std.proofs.lemmas.List.{get_or-set_same, get_or-set_other, get_or_default}
-use Rattle.kpn_net.specs.declared.wait.Wait.{Wait}
+use Rattle.kpn_machine.proofs.Common.{get_or-set_same, get_or-set_other, get_or_default, Wait, Process, Sink, Tables, channel_at, is_source, reader_of, writer_of, program_of, wait_at, IsOwnWait, AreWaits, waits-set, Parts, Frame, fits, passed, IsGiven, Fits-from, ChannelState, after_put, after_get, retired, is_channel_full, most_after, How, Event, is_of, written_in, read_in, is_close_of, wait_made, wakes, capacity_then, takes_end, takes_reader, none_elsewhere, item_here, Machine, channel_in, closed_in, frame_in, no_frame, IsMachine, IsFree, with_closed, with_waits, with_frame, end_then, IsChannelAfter, IsFrameAfter, Changes, ReadsFrom, WritesTo, is_wait, woken_at, AreWoken}
 use Rattle.kpn_net.specs.declared.wait.Wait.TheVariants.{Nobody, Empty, Full}
-use Rattle.kpn_net.specs.declared.tables.End.TheVariants.{Process, Sink}
-use Rattle.kpn_net.specs.Tables.{Tables, channel_at, is_source, reader_of, writer_of, program_of}
-use Rattle.kpn_net.specs.Waits.{wait_at, IsOwnWait, AreWaits}
-use Rattle.kpn_net.proofs.WaitTables.{waits-set}
-use Rattle.kpn_lang.specs.Parts.{Parts}
-use Rattle.kpn_step.specs.Frame.{Frame, fits, passed}
-use Rattle.kpn_step.specs.Stops.{IsGiven}
-use Rattle.kpn_step.proofs.Places.{Fits-from}
-use Rattle.kpn_chan.specs.Channel.{ChannelState, after_put, after_get, retired, is_channel_full, most_after}
-use Rattle.kpn_history.specs.declared.event.How.{How}
-use Rattle.kpn_history.specs.declared.event.Event.{Event}
 use Rattle.kpn_history.specs.declared.event.Event.TheVariants.{Get, Put, WaitEmpty, WaitFull, Feed, Close, Take, Leave}
-use Rattle.kpn_history.specs.Talks.{is_of}
-use Rattle.kpn_history.specs.Channels.{written_in, read_in, is_close_of}
-use Rattle.kpn_history.specs.WaitsAfter.{wait_made}
-use Rattle.kpn_history.specs.Waking.{wakes}
-use Rattle.kpn_history.specs.AfterEvent.{capacity_then, takes_end, takes_reader}
-use Rattle.kpn_history.proofs.Journals.{none_elsewhere}
-use Rattle.kpn_history.proofs.OneMore.{item_here}
-use Rattle.kpn_machine.specs.Machine.{Machine, channel_in, closed_in, frame_in, no_frame, IsMachine, IsFree, with_closed, with_waits, with_frame}
-use Rattle.kpn_machine.specs.Changes.{end_then, IsChannelAfter, IsFrameAfter, Changes}
-use Rattle.kpn_machine.specs.Due.{ReadsFrom, WritesTo}
-use Rattle.kpn_machine.specs.Woken.{is_wait, woken_at, AreWoken}
 use Rattle.kpn_machine.proofs.Parts.{or-false, IsUntouched, untouched, keeps_reader, channels_set, waits_of_kind, wakes-get, wakes-take, wakes-leave, wakes-put, wakes-feed, waits_set, wakes-wait_empty, wakes-wait_full, wait_then-close, KeepsRoom, SameLengths, IsMachine-next}
 use Rattle.kpn_machine.proofs.Woken.{end_of, process_woken, stay}
 

@@ -1,23 +1,9 @@
 -- A walk along the waits of a machine, from a channel from writer to writer, says whether the channel is complete
 -- in each history that leads there.
 use Rattle.std.proofs.Common.{◌≡◌, ◌↔◌, ℕ, ◌+◌, ◌<◌, ◌≤◌, Bool, true, false, IsTrue, List, length, Option, Some, None, is_some, refl, sym, ◌∙◌, subst}
-use Rattle.std.proofs.lemmas.Bool.{false≢true}
-use Rattle.kpn_net.specs.declared.tables.End.{End}
-use Rattle.kpn_net.specs.declared.tables.End.TheVariants.{Process, Source, Sink}
-use Rattle.kpn_net.specs.declared.wait.Wait.TheVariants.{Empty}
-use Rattle.kpn_net.specs.Tables.{Tables, channel_at, is_source, writer_of}
-use Rattle.kpn_net.specs.Faults.{IsNetwork}
-use Rattle.kpn_net.specs.Waits.{IsOwnWait}
-use Rattle.kpn_net.proofs.Networks.{Writes-writer_of, source-writer_of, writer_is_no_sink}
-use Rattle.kpn_net.proofs.Findings.{read_below}
-use Rattle.kpn_history.specs.declared.event.How.{How}
-use Rattle.kpn_history.specs.declared.event.Event.{Event}
-use Rattle.kpn_history.specs.Talks.{has_ended}
+use Rattle.kpn_machine.proofs.Common.{false≢true, End, Process, Source, Sink, Empty, Tables, channel_at, is_source, writer_of, IsNetwork, IsOwnWait, Writes-writer_of, source-writer_of, writer_is_no_sink, read_below, How, Event, has_ended, ended_exactly, Machine, closed_in, wait_in, end_in, IsMachine, IsEndOf, IsRun}
 use Rattle.kpn_history.specs.Complete.{IsComplete}
-use Rattle.kpn_history.proofs.EndsOnce.{ended_exactly}
 use Rattle.kpn_history.proofs.CompleteWalks.{Walked, walk_starts, complete_source, complete_if_ended, incomplete_if_neither, walk_more, walk_long}
-use Rattle.kpn_machine.specs.Machine.{Machine, closed_in, wait_in, end_in, IsMachine}
-use Rattle.kpn_machine.specs.Run.{IsEndOf, IsRun}
 
 -- in each history that leads here, a walk has come from one channel to another in this many steps
 abbrev pub WalkedHere : Tables → Machine → (from steps at : ℕ) → Type 0

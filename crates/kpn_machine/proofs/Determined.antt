@@ -1,12 +1,6 @@
 -- An event leads to one machine, except for what is reserved.
-use Rattle.std.proofs.Common.{◌≡◌, ℕ, ℤ, sym, ◌∙◌, inl, inr}
-use Rattle.std.proofs.lemmas.Bool.{cases_eq}
-use Rattle.kpn_net.specs.Tables.{Tables}
-use Rattle.kpn_step.specs.Frame.{Frame}
-use Rattle.kpn_history.specs.declared.event.Event.{Event}
+use Rattle.kpn_machine.proofs.Common.{◌≡◌, ℕ, ℤ, sym, ◌∙◌, inl, inr, cases_eq, Tables, Frame, Event, Machine, frame_in, PassesRead, IsFrameAfter, Changes}
 use Rattle.kpn_history.specs.declared.event.Event.TheVariants.{Get, Put}
-use Rattle.kpn_machine.specs.Machine.{Machine, frame_in}
-use Rattle.kpn_machine.specs.Changes.{PassesRead, IsFrameAfter, Changes}
 use Rattle.kpn_machine.specs.Determined.{AreSame}
 
 same-read : (t : Tables) (p c : ℕ) (v : ℤ) (f g h : Frame) → PassesRead t p c v f g → PassesRead t p c v f h → g ≡ h

@@ -1,37 +1,13 @@
 -- An event that is due by the machine may follow the history that leads there.
-use Rattle.std.proofs.Common.{◌≡◌, ◌≢◌, ℕ, ◌+◌, ◌<◌, Bool, true, false, not, ◌&&◌, ℤ, cond, eqb, List, [], ◌∷◌, ◌++◌, length, drop, map, Option, Some, None, slice_get, refl, sym, ap, ◌∙◌, subst, append-nil}
-use Rattle.std.proofs.lemmas.Bool.{not-true}
-use Rattle.std.proofs.lemmas.List.{get_or-map}
+use Rattle.kpn_machine.proofs.Common.{◌≡◌, ◌≢◌, ℕ, ◌+◌, ◌<◌, Bool, true, false, not, ◌&&◌, ℤ, cond, eqb, List, [], ◌∷◌, ◌++◌, length, drop, map, Option, Some, None, slice_get, refl, sym, ap, ◌∙◌, subst, append-nil, not-true, get_or-map, Ending, Tables, channel_at, is_source, is_sink, instance_at, IsNetwork, ProcessCanSay, ProcessComesTo, ends_at_channel, EndsThere, reader_of-sink, Stop, ChannelState, unread, next_item, How, Event, talk_of, how_of, has_ended, read_on, read_in, unread_on, is_empty, is_full, is_closed, is_left, reader_lives, lives, reaches, capacity_after, HasNumbers, IsDue, CanGo, ending_of, Legal, IsOldest, KeepsConsistent, OwesNothing, read_on-push, IsLast, IsLast-ending_of, Legal-exactly, item_here, Machine, channel_in, closed_in, end_in, frame_in, IsFree, HoldsChannel, IsEndOf, IsRun, Stands, ReadsFrom, WritesTo, stop_for, stop_of, IsDueNow}
 use Rattle.kpn_lang.specs.declared.talk.Said.TheVariants as said
-use Rattle.kpn_lang.specs.declared.talk.Ending.{Ending}
 use Rattle.kpn_lang.specs.declared.talk.Ending.TheVariants as ending
 use Rattle.kpn_lang.specs.declared.value.Fault.{Fault}
 use Rattle.kpn_lang.specs.declared.value.Fault.TheVariants.{Overflow, ZeroDivisor, Index, Shift}
-use Rattle.kpn_net.specs.Tables.{Tables, channel_at, is_source, is_sink, instance_at}
-use Rattle.kpn_net.specs.Faults.{IsNetwork}
-use Rattle.kpn_net.specs.Process.{ProcessCanSay, ProcessComesTo, ends_at_channel}
-use Rattle.kpn_step.specs.After.{EndsThere}
-use Rattle.kpn_net.proofs.Networks.{reader_of-sink}
-use Rattle.kpn_step.specs.declared.stop.Stop.{Stop}
 use Rattle.kpn_step.specs.declared.stop.Stop.TheVariants as stop
 use Rattle.kpn_chan.specs.Channel as chan
-use Rattle.kpn_chan.specs.Channel.{ChannelState, unread, next_item}
 use Rattle.kpn_chan.proofs.Reading.{given, drop-given}
-use Rattle.kpn_history.specs.declared.event.How.{How}
-use Rattle.kpn_history.specs.declared.event.Event.{Event}
 use Rattle.kpn_history.specs.declared.event.Event.TheVariants.{Get, Put, WaitEmpty, WaitFull, Ended, Feed, Close, Take, Leave, Grow}
-use Rattle.kpn_history.specs.Talks.{talk_of, how_of, has_ended}
-use Rattle.kpn_history.specs.Channels.{read_on, read_in, unread_on, is_empty, is_full, is_closed, is_left, reader_lives, lives, reaches, capacity_after}
-use Rattle.kpn_history.specs.Legal.{HasNumbers, IsDue, CanGo, ending_of, Legal}
-use Rattle.kpn_history.specs.OneMore.{IsOldest, KeepsConsistent}
-use Rattle.kpn_history.specs.Stops.{OwesNothing}
-use Rattle.kpn_history.proofs.Events.{read_on-push}
-use Rattle.kpn_history.proofs.Running.{IsLast}
-use Rattle.kpn_history.proofs.Above.{IsLast-ending_of}
-use Rattle.kpn_history.proofs.OneMore.{Legal-exactly, item_here}
-use Rattle.kpn_machine.specs.Machine.{Machine, channel_in, closed_in, end_in, frame_in, IsFree}
-use Rattle.kpn_machine.specs.Run.{HoldsChannel, IsEndOf, IsRun}
-use Rattle.kpn_machine.specs.Due.{Stands, ReadsFrom, WritesTo, stop_for, stop_of, IsDueNow}
 use Rattle.kpn_machine.proofs.Talking.{CanSay-next, ComesTo-end}
 
 -- ---- ends as stops

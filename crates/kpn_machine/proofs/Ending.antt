@@ -1,34 +1,16 @@
 -- The end of a process: it retires each channel that the process reads, in order of port, and wakes the writer of each.
 use Rattle.std.proofs.Common.{◌≡◌, ◌≢◌, ℕ, ◌<◌, Bool, true, false, ◌||◌, cond, eqb, eq-eqb, IsTrue, List, [], ◌∷◌, ◌++◌, length, get_or, take, length-take, Option, Some, None, refl, sym, ap, ◌∙◌, subst, inl, inr, arith, append-nil, add-zero, length-set, slice_set}
 use Rattle.std.specs.List.{Contains, list_any, filter_map, cons_option}
-use Rattle.std.specs.Option.{option_to_list}
+use Rattle.kpn_machine.proofs.Common.{option_to_list, get_or-set_same, get_or-set_other, get_or_default, get_or-take, Contains-append_left, Contains-push, Contains-push_cases, filter_map-append, Wait, End, Process, Source, Sink, Tables, reader_of, writer_of, instance_at, IsNetwork, wait_at, AreWaits, AreDistinct, reads_its_ins, one_port, ChannelState, opened, retired, How, takes_end, takes_reader, is_process, wakes, Machine, channel_in, closed_in, end_in, frame_in, IsMachine, IsFree, with_end, IsChannelAfter, Changes, is_wait, is_wait_on_full, waiting_at, waiting_writer, woken_at, AreWoken, is_wait_on_full_among, IsRetiredAs, EndSoFar, Contains-none}
 use Rattle.std.proofs.lemmas.Bool.{cases_Bool, cases_eq, ne_eqb, eqb-true, both_ways, false≢true}
-use Rattle.std.proofs.lemmas.List.{get_or-set_same, get_or-set_other, get_or_default, get_or-take}
 use Rattle.std.proofs.lemmas.List.Folds.{list_any-append}
 use Rattle.std.proofs.lemmas.Map.Views.{Contains-from_any, list_any-from_Contains}
 use Rattle.std.specs.Cmp.{nat_eq_equiv}
-use Rattle.std.proofs.lemmas.List.Elements.{Contains-append_left, Contains-push, Contains-push_cases, filter_map-append}
-use Rattle.kpn_net.specs.declared.wait.Wait.{Wait}
 use Rattle.kpn_net.specs.declared.wait.Wait.TheVariants.{Nobody, Empty, Full}
-use Rattle.kpn_net.specs.declared.tables.End.{End}
-use Rattle.kpn_net.specs.declared.tables.End.TheVariants.{Process, Source, Sink}
-use Rattle.kpn_net.specs.Tables.{Tables, reader_of, writer_of, instance_at}
-use Rattle.kpn_net.specs.Faults.{IsNetwork}
-use Rattle.kpn_net.specs.Waits.{wait_at, AreWaits, AreDistinct}
-use Rattle.kpn_net.proofs.PortsApart.{reads_its_ins, one_port}
-use Rattle.kpn_chan.specs.Channel.{ChannelState, opened, retired}
-use Rattle.kpn_history.specs.declared.event.How.{How}
 use Rattle.kpn_history.specs.declared.event.Event.TheVariants.{Ended}
-use Rattle.kpn_history.specs.AfterEvent.{takes_end, takes_reader}
-use Rattle.kpn_history.specs.Waking.{is_process, wakes}
-use Rattle.kpn_machine.specs.Machine.{Machine, channel_in, closed_in, end_in, frame_in, IsMachine, IsFree, with_end}
-use Rattle.kpn_machine.specs.Changes.{IsChannelAfter, Changes}
-use Rattle.kpn_machine.specs.Woken.{is_wait, is_wait_on_full, waiting_at, waiting_writer, woken_at, AreWoken}
-use Rattle.kpn_machine.specs.EndSoFar.{is_wait_on_full_among, IsRetiredAs, EndSoFar}
 use Rattle.kpn_machine.proofs.Parts.{or-false, untouched, waits_of_kind}
 use Rattle.kpn_machine.proofs.Calls.{Made, Made-from}
 use Rattle.kpn_machine.proofs.Woken.{stay, process_woken}
-use Rattle.kpn_net.proofs.Cycles.{Contains-none}
 
 -- ---- one port more
 

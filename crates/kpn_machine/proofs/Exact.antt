@@ -1,47 +1,13 @@
 -- Only what is due may follow: the stop at a frame decides what the process says next and how it ends.
-use Rattle.std.proofs.Common.{◌≡◌, ◌≢◌, ℕ, ◌<◌, ◌≤◌, Bool, true, false, not, ℤ, cond, eqb, List, [], ◌∷◌, ◌++◌, length, map, Option, Some, None, is_some, slice_get, slice_index, refl, sym, ap, ◌∙◌, subst, inl, inr, ◌⊎◌, arith, append-nil, length-append}
+use Rattle.kpn_machine.proofs.Common.{◌≡◌, ◌≢◌, ℕ, ◌<◌, ◌≤◌, Bool, true, false, not, ℤ, cond, eqb, List, [], ◌∷◌, ◌++◌, length, map, Option, Some, None, is_some, slice_get, slice_index, refl, sym, ap, ◌∙◌, subst, inl, inr, ◌⊎◌, arith, append-nil, length-append, length-map, map-append, Said, Ending, IsPrefix, Lists, alone, IsPrefix-refl, rest_of_prefix, prefix_after, length_of_prefix, same_from_prefix, IsPrefix-after, Instance, Process, Tables, channel_at, is_sink, reader_of, instance_at, program_of, IsNetwork, Family, ran_on, talk_on, ProcessCanSay, ProcessComesTo, at_channel, ends_at_channel, reader_of-sink, Stop, SaysNext, EndsThere, Frame, talk_said, next_said, end_reached, unread, next_item, How, Event, is_of, is_of_process, talk_of, has_ended, read_in, read_on, is_left, lives, CanGo, ending_of, Legal, IsOldest, OwesNothing, read_on-push, ended_exactly, can_go, Legal-exactly, IsLast, IsLast-ending_of, Machine, channel_in, end_in, frame_in, IsFree, IsEndOf, StandsAfter, IsRun, Stands, ReadsFrom, WritesTo, stop_for, stop_of, IsDueNow}
 use Rattle.std.proofs.lemmas.Bool.{false≢true, both_ways, eqb-true}
-use Rattle.std.proofs.lemmas.List.{length-map, map-append}
-use Rattle.kpn_lang.specs.declared.talk.Said.{Said}
 use Rattle.kpn_lang.specs.declared.talk.Said.TheVariants as said
-use Rattle.kpn_lang.specs.declared.talk.Ending.{Ending}
 use Rattle.kpn_lang.specs.declared.talk.Ending.TheVariants as ending
-use Rattle.kpn_lang.specs.Prefix.{IsPrefix}
-use Rattle.kpn_lang.specs.Run.{Lists}
-use Rattle.kpn_lang.specs.Alone.{alone}
 use Rattle.kpn_lang.proofs.Processes.{CanSay-both}
 use Rattle.kpn_lang.proofs.Sequential.{IsSequential-alone}
-use Rattle.kpn_lang.proofs.Prefixes.{IsPrefix-refl, rest_of_prefix, prefix_after, length_of_prefix, same_from_prefix, IsPrefix-after}
-use Rattle.kpn_net.specs.declared.tables.Instance.{Instance}
-use Rattle.kpn_net.specs.declared.tables.End.TheVariants.{Process}
-use Rattle.kpn_net.specs.Tables.{Tables, channel_at, is_sink, reader_of, instance_at, program_of}
-use Rattle.kpn_net.specs.Faults.{IsNetwork}
-use Rattle.kpn_net.specs.Process.{Family, ran_on, talk_on, ProcessCanSay, ProcessComesTo, at_channel, ends_at_channel}
-use Rattle.kpn_net.proofs.Networks.{reader_of-sink}
-use Rattle.kpn_step.specs.declared.stop.Stop.{Stop}
 use Rattle.kpn_step.specs.declared.stop.Stop.TheVariants as stop
 use Rattle.kpn_step.specs.Stops.{StandsAt}
-use Rattle.kpn_step.specs.After.{SaysNext, EndsThere}
-use Rattle.kpn_step.specs.Frame.{Frame}
-use Rattle.kpn_step.proofs.After.{talk_said, next_said, end_reached}
-use Rattle.kpn_chan.specs.Channel.{unread, next_item}
-use Rattle.kpn_history.specs.declared.event.How.{How}
-use Rattle.kpn_history.specs.declared.event.Event.{Event}
 use Rattle.kpn_history.specs.declared.event.Event.TheVariants.{Get, Put, WaitEmpty, WaitFull, Ended, Feed, Close, Take, Leave, Grow}
-use Rattle.kpn_history.specs.Talks.{is_of, is_of_process, talk_of, has_ended}
-use Rattle.kpn_history.specs.Channels.{read_in, read_on, is_left, lives}
-use Rattle.kpn_history.specs.Legal.{CanGo, ending_of, Legal}
-use Rattle.kpn_history.specs.OneMore.{IsOldest}
-use Rattle.kpn_history.specs.Stops.{OwesNothing}
-use Rattle.kpn_history.proofs.Events.{read_on-push}
-use Rattle.kpn_history.proofs.EndsOnce.{ended_exactly}
-use Rattle.kpn_history.proofs.Legality.{can_go}
-use Rattle.kpn_history.proofs.OneMore.{Legal-exactly}
-use Rattle.kpn_history.proofs.Running.{IsLast}
-use Rattle.kpn_history.proofs.Above.{IsLast-ending_of}
-use Rattle.kpn_machine.specs.Machine.{Machine, channel_in, end_in, frame_in, IsFree}
-use Rattle.kpn_machine.specs.Run.{IsEndOf, StandsAfter, IsRun}
-use Rattle.kpn_machine.specs.Due.{Stands, ReadsFrom, WritesTo, stop_for, stop_of, IsDueNow}
 use Rattle.kpn_machine.proofs.Due.{unread_same, full_same}
 use Rattle.kpn_machine.proofs.Ports.{reads_below, reads_own, in_port, out_port}
 use Rattle.kpn_machine.proofs.Talking.{IsRestAfter-more}

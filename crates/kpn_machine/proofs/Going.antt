@@ -1,37 +1,11 @@
 -- A process whose next read or write can take place waits for nobody: since its wait it has said nothing, so it would
 -- wait at that same read or write.
-use Rattle.std.proofs.Common.{◌≡◌, ℕ, ◌<◌, Bool, true, false, ℤ, cond, List, [], ◌∷◌, ◌++◌, length, map, Option, Some, None, slice_index, refl, sym, ap, ◌∙◌, subst, inl, inr, arith, append-nil, length-append}
+use Rattle.kpn_machine.proofs.Common.{◌≡◌, ℕ, ◌<◌, Bool, true, false, ℤ, cond, List, [], ◌∷◌, ◌++◌, length, map, Option, Some, None, slice_index, refl, sym, ap, ◌∙◌, subst, inl, inr, arith, append-nil, length-append, Said, IsPrefix, Lists, IsPrefix-refl, IsPrefix-trans, length_of_prefix, Wait, Instance, Tables, instance_at, IsNetwork, Family, talk_on, ProcessCanSay, at_channel, SaysNext, next_item, Event, Get, WaitEmpty, WaitFull, is_of, said_in, talk_of, last_event, read_on, unread_on, is_empty, is_full, wait_of_last, wait_of, Legal, Some-event, flat_map-same, last_event-own, last_event-other, talk_of-other, read_on-grows, read_on-same, none_elsewhere, Legal-last, by_events, CanSay-grows, IsStarved-last, empty_wait, full_where_waited, Machine, channel_in, wait_in, frame_in, IsRun, ReadsFrom, WritesTo}
 use Rattle.std.proofs.lemmas.Bool.{cases_Bool, cases_eq, both_ways, eqb-true}
-use Rattle.kpn_lang.specs.declared.talk.Said.{Said}
 use Rattle.kpn_lang.specs.declared.talk.Said.TheVariants as said
-use Rattle.kpn_lang.specs.Prefix.{IsPrefix}
-use Rattle.kpn_lang.specs.Run.{Lists}
-use Rattle.kpn_lang.proofs.Prefixes.{IsPrefix-refl, IsPrefix-trans, length_of_prefix}
-use Rattle.kpn_net.specs.declared.wait.Wait.{Wait}
 use Rattle.kpn_net.specs.declared.wait.Wait.TheVariants.{Nobody, Empty, Full}
-use Rattle.kpn_net.specs.declared.tables.Instance.{Instance}
-use Rattle.kpn_net.specs.Tables.{Tables, instance_at}
-use Rattle.kpn_net.specs.Faults.{IsNetwork}
-use Rattle.kpn_net.specs.Process.{Family, talk_on, ProcessCanSay, at_channel}
 use Rattle.kpn_step.specs.declared.stop.Stop.TheVariants as stop
-use Rattle.kpn_step.specs.After.{SaysNext}
 use Rattle.kpn_chan.specs.Channel as chan
-use Rattle.kpn_chan.specs.Channel.{next_item}
-use Rattle.kpn_history.specs.declared.event.Event.{Event}
-use Rattle.kpn_history.specs.declared.event.Event.TheVariants.{Get, WaitEmpty, WaitFull}
-use Rattle.kpn_history.specs.Talks.{is_of, said_in, talk_of, last_event}
-use Rattle.kpn_history.specs.Channels.{read_on, unread_on, is_empty, is_full}
-use Rattle.kpn_history.specs.Waiting.{wait_of_last, wait_of}
-use Rattle.kpn_history.specs.Legal.{Legal}
-use Rattle.kpn_history.proofs.Events.{Some-event, flat_map-same, last_event-own, last_event-other, talk_of-other, read_on-grows, read_on-same}
-use Rattle.kpn_history.proofs.Journals.{none_elsewhere}
-use Rattle.kpn_history.proofs.Legality.{Legal-last, by_events}
-use Rattle.kpn_history.proofs.OneMore.{CanSay-grows}
-use Rattle.kpn_history.proofs.Above.{IsStarved-last, empty_wait}
-use Rattle.kpn_history.proofs.Growth.{full_where_waited}
-use Rattle.kpn_machine.specs.Machine.{Machine, channel_in, wait_in, frame_in}
-use Rattle.kpn_machine.specs.Run.{IsRun}
-use Rattle.kpn_machine.specs.Due.{ReadsFrom, WritesTo}
 use Rattle.kpn_machine.proofs.Due.{full_same, oldest, says_got, says_put}
 use Rattle.kpn_machine.proofs.Exact.{next_is_asked}
 

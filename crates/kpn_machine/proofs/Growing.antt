@@ -1,38 +1,11 @@
 -- Growth: the search along the waits finds the growth that is owed, and the channel becomes what the event makes of it.
 use Rattle.std.proofs.Common.{◌≡◌, ◌↔◌, ℕ, ◌<◌, ◌≤◌, Bool, true, false, not, cond, eq-eqb, ltb, IsTrue, List, [], ◌∷◌, ◌++◌, length, Option, Some, None, is_some, refl, sym, ap, ◌∙◌, subst, inl, inr, arith, IsSomeAnd, ◌||◌, append-nil, add-zero, slice_set}
-use Rattle.std.specs.Option.{unwrap_or, option_map}
-use Rattle.std.proofs.lemmas.Bool.{false≢true, cases_lt, ltb-true, ltb-false, ne_eqb}
-use Rattle.std.proofs.lemmas.List.{get_or_past, get_or-map, ext_get_or, length-map}
-use Rattle.std.proofs.lemmas.List.FromFn.{length-map-range_with_len}
-use Rattle.kpn_net.specs.declared.found.Found.{Found}
+use Rattle.kpn_machine.proofs.Common.{unwrap_or, option_map, false≢true, cases_lt, ltb-true, ltb-false, ne_eqb, get_or_past, get_or-map, ext_get_or, length-map, length-map-range_with_len, Found, Wait, Tables, channel_at, is_source, capacity, larger_capacity, writer_of, IsNetwork, wait_at, full_channel, IsOwnWait, AreWaits, Finds, full_at, cycle_below, full_cycle_unique, finding_unique, finding_with_same_capacities, Writes, Writes-writer_of, Writes-below, source_if_not_written, limit_in_range, larger_capacity_in_range, cap_in, opened, grown_to, MayGrowTo, Event, Grow, after_growths, capacity_after, capacity_or_zero, capacity_then, wait_of, waits_of, Legal, HasNumbers, OwesCycleGrowth, OwesGrowth, growth_after, waiter, by_events, Legal-last, capacity_after-next, Legal-exactly, Machine, channel_in, IsMachine, capacities, IsRun, IsOwed, IsAwaitedBelowLimit, channel_to_grow, is_wait, woken_at}
 use Rattle.kpn_net.specs.declared.found.Found.TheVariants.{NoCycle, AllEmpty, Full}
-use Rattle.kpn_net.specs.declared.wait.Wait.{Wait}
 use Rattle.kpn_net.specs.declared.wait.Wait.TheVariants as wait
-use Rattle.kpn_net.specs.Tables.{Tables, channel_at, is_source, capacity, larger_capacity, writer_of}
-use Rattle.kpn_net.specs.Faults.{IsNetwork}
-use Rattle.kpn_net.specs.Waits.{wait_at, full_channel, IsOwnWait, AreWaits}
-use Rattle.kpn_net.specs.Finding.{Finds}
-use Rattle.kpn_net.proofs.Cycles.{full_at, cycle_below}
-use Rattle.kpn_net.proofs.Findings.{full_cycle_unique, finding_unique, finding_with_same_capacities}
-use Rattle.kpn_net.proofs.Networks.{Writes, Writes-writer_of, Writes-below, source_if_not_written, limit_in_range, larger_capacity_in_range}
-use Rattle.kpn_cycle.specs.Scan.{cap_in}
-use Rattle.kpn_chan.specs.Channel.{opened, grown_to, MayGrowTo}
 use Rattle.kpn_limits.specs.declared.TheConstants.{MAX_CAPACITY}
-use Rattle.kpn_history.specs.declared.event.Event.{Event}
-use Rattle.kpn_history.specs.declared.event.Event.TheVariants.{Grow}
-use Rattle.kpn_history.specs.Channels.{after_growths, capacity_after, capacity_or_zero}
-use Rattle.kpn_history.specs.AfterEvent.{capacity_then}
-use Rattle.kpn_history.specs.Waiting.{wait_of, waits_of}
-use Rattle.kpn_history.specs.Legal.{Legal, HasNumbers, OwesCycleGrowth, OwesGrowth, growth_after, waiter}
-use Rattle.kpn_history.proofs.Legality.{by_events, Legal-last}
-use Rattle.kpn_history.proofs.Capacities.{capacity_after-next}
 use Rattle.kpn_history.proofs.EarlierWaits.{wait_at-waits_of}
 use Rattle.kpn_history.proofs.OwedGrowth.{one_owed, owed_as_found}
-use Rattle.kpn_history.proofs.OneMore.{Legal-exactly}
-use Rattle.kpn_machine.specs.Machine.{Machine, channel_in, IsMachine, capacities}
-use Rattle.kpn_machine.specs.Run.{IsRun}
-use Rattle.kpn_machine.specs.Owed.{IsOwed, IsAwaitedBelowLimit, channel_to_grow}
-use Rattle.kpn_machine.specs.Woken.{is_wait, woken_at}
 use Rattle.kpn_machine.proofs.Parts.{or-false, keeps_reader, wakes-grow}
 use Rattle.kpn_machine.proofs.Calls.{Made, made_on}
 

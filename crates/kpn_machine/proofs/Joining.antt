@@ -1,10 +1,6 @@
 -- Whom a batch wakes at a channel.
-use Rattle.std.proofs.Common.{◌≡◌, ◌≢◌, ℕ, ◌||◌, ◌&&◌, Bool, true, false, cond, List, refl, sym, ap, ◌∙◌, subst}
-use Rattle.kpn_net.specs.declared.wait.Wait.{Wait}
+use Rattle.kpn_machine.proofs.Common.{◌≡◌, ◌≢◌, ℕ, ◌||◌, ◌&&◌, Bool, true, false, cond, List, refl, sym, ap, ◌∙◌, subst, Wait, Tables, writer_of, reader_of, wait_at, AreWaits, is_wait, woken_at, AreWoken, ends_by_batch}
 use Rattle.kpn_net.specs.declared.wait.Wait.TheVariants.{Nobody, Empty, Full}
-use Rattle.kpn_net.specs.Tables.{Tables, writer_of, reader_of}
-use Rattle.kpn_net.specs.Waits.{wait_at, AreWaits}
-use Rattle.kpn_machine.specs.Woken.{is_wait, woken_at, AreWoken, ends_by_batch}
 use Rattle.kpn_machine.proofs.Woken.{end_of, process_woken, stay}
 
 nobody : (b : Bool) → cond b Nobody Nobody ≡ Nobody

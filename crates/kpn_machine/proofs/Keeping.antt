@@ -1,7 +1,5 @@
 -- What channels keep.
-use Rattle.std.proofs.Common.{◌≡◌, ℕ, zero, suc, ◌<◌, ◌∙◌, Bool, true, false, ◌&&◌, if◌then◌else◌, List, [], ◌∷◌, length, map, get_or, refl, ap, arith}
-use Rattle.kpn_chan.specs.Channel.{ChannelState, kept_journal}
-use Rattle.kpn_machine.specs.Machine.{are_kept}
+use Rattle.kpn_machine.proofs.Common.{◌≡◌, ℕ, zero, suc, ◌<◌, ◌∙◌, Bool, true, false, ◌&&◌, if◌then◌else◌, List, [], ◌∷◌, length, map, get_or, refl, ap, arith, ChannelState, kept_journal, are_kept}
 
 -- if all are kept, the first is, and the rest are
 parts : (b rest : Bool) → (b && rest) ≡ true → (b ≡ true) × (rest ≡ true)

@@ -1,32 +1,10 @@
 -- After one more event the history leads to the machine into which the event changes the one before, part by
 -- part.
 use Rattle.std.proofs.Common.{◌≡◌, ℕ, ◌+◌, Bool, true, false, not, ◌&&◌, ◌||◌, ℤ, cond, eqb, eq-eqb, List, [], ◌∷◌, ◌++◌, length, map, Option, Some, None, refl, sym, ap, ◌∙◌, subst, inl, inr, length-append}
-use Rattle.std.proofs.lemmas.Bool.{cases_eq, ne_eqb}
-use Rattle.std.proofs.lemmas.List.{map-append}
-use Rattle.std.proofs.lemmas.List.Elements.{Contains-append_left, Contains-push}
-use Rattle.kpn_lang.specs.declared.talk.Said.{Said}
+use Rattle.kpn_machine.proofs.Common.{cases_eq, ne_eqb, map-append, Contains-append_left, Contains-push, Said, Tables, instance_at, program_of, IsNetwork, at_channel, Frame, ChannelState, How, Event, is_end_of, said_in, talk_of, written_in, read_in, read_on, reader_lives, is_close_of, wait_then, capacity_then, takes_reader, Legal, flat_map-same, written_on-push, read_on-push, talk_of-push, talk_of-other, capacity_after-next, Machine, HoldsChannel, IsEndOf, NamesInsBelow, StandsAfter, LeadsToMachine, IsChannelAfter, end_then, PassesRead, PassesWrite, IsFrameAfter, Changes, wait_of-then, IsAfter-got, IsAfter-put}
 use Rattle.kpn_lang.specs.declared.talk.Said.TheVariants as said
-use Rattle.kpn_net.specs.Tables.{Tables, instance_at, program_of}
-use Rattle.kpn_net.specs.Faults.{IsNetwork}
-use Rattle.kpn_net.specs.Process.{at_channel}
-use Rattle.kpn_step.specs.Frame.{Frame}
-use Rattle.kpn_chan.specs.Channel.{ChannelState}
-use Rattle.kpn_history.specs.declared.event.How.{How}
-use Rattle.kpn_history.specs.declared.event.Event.{Event}
 use Rattle.kpn_history.specs.declared.event.Event.TheVariants.{Get, Put, Ended}
-use Rattle.kpn_history.specs.Talks.{is_end_of, said_in, talk_of}
-use Rattle.kpn_history.specs.Channels.{written_in, read_in, read_on, reader_lives, is_close_of}
-use Rattle.kpn_history.specs.Waking.{wait_then}
-use Rattle.kpn_history.specs.AfterEvent.{capacity_then, takes_reader}
-use Rattle.kpn_history.specs.Legal.{Legal}
-use Rattle.kpn_history.proofs.Events.{flat_map-same, written_on-push, read_on-push, talk_of-push, talk_of-other}
 use Rattle.kpn_history.proofs.AfterEvent.{has_ended-next, is_closed-next, reader_lives-next}
-use Rattle.kpn_history.proofs.Capacities.{capacity_after-next}
-use Rattle.kpn_machine.specs.Machine.{Machine}
-use Rattle.kpn_machine.specs.Run.{HoldsChannel, IsEndOf, NamesInsBelow, StandsAfter, LeadsToMachine}
-use Rattle.kpn_machine.specs.Changes.{IsChannelAfter, end_then, PassesRead, PassesWrite, IsFrameAfter, Changes}
-use Rattle.kpn_history.proofs.Waking.{wait_of-then}
-use Rattle.kpn_step.proofs.After.{IsAfter-got, IsAfter-put}
 
 -- ---- channels
 

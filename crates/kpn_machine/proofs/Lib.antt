@@ -1,3 +1,4 @@
+pub mod Common
 pub mod Applying
 pub mod Calls
 pub mod Due

@@ -1,18 +1,9 @@
 -- The marks on channels as the table of waits changes.
-use Rattle.std.proofs.Common.{◌≡◌, ◌≢◌, ℕ, ◌<◌, Bool, true, false, cond, List, [], ◌∷◌, length, replicate, set, Some, None, refl, sym, ap, ◌∙◌, subst, inl, inr, arith}
+use Rattle.kpn_machine.proofs.Common.{◌≡◌, ◌≢◌, ℕ, ◌<◌, Bool, true, false, cond, List, [], ◌∷◌, length, replicate, set, Some, None, refl, sym, ap, ◌∙◌, subst, inl, inr, arith, both_ways, cases_eq, cases_lt, Contains-get_or, Wait, End, Process, Source, Sink, Tables, instance_at, writer_of, reader_of, wait_at, awaited, process_at, AreWaits, WaitsFor, WaitInTurn, IsCycle, is_marked, AreMarked, is_wait, waiting_at, woken_at}
 use Rattle.std.specs.List.{Contains}
-use Rattle.std.proofs.lemmas.Bool.{both_ways, cases_eq, cases_lt}
-use Rattle.std.proofs.lemmas.List.Elements.{Contains-get_or}
 use Rattle.std.proofs.lemmas.List.{length-replicate, length-set, get_or-replicate, get_or-set_same, get_or-set_other, get_or_past}
-use Rattle.kpn_net.specs.declared.wait.Wait.{Wait}
 use Rattle.kpn_net.specs.declared.wait.Wait.TheVariants.{Nobody, Empty, Full}
-use Rattle.kpn_net.specs.declared.tables.End.{End}
-use Rattle.kpn_net.specs.declared.tables.End.TheVariants.{Process, Source, Sink}
-use Rattle.kpn_net.specs.Tables.{Tables, instance_at, writer_of, reader_of}
-use Rattle.kpn_net.specs.Waits.{wait_at, awaited, process_at, AreWaits, WaitsFor, WaitInTurn, IsCycle}
 use Rattle.kpn_net.proofs.Networks.{StandsAt, Writes-writer_of, Reads-reader_of}
-use Rattle.kpn_machine.specs.Marks.{is_marked, AreMarked}
-use Rattle.kpn_machine.specs.Woken.{is_wait, waiting_at, woken_at}
 use Rattle.kpn_machine.proofs.Woken.{is_that, is_itself, process_woken}
 
 -- ---- at the start

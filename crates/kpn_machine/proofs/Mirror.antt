@@ -1,9 +1,5 @@
 -- The second list of capacities: it stays the same if one channel becomes another of the same capacity.
-use Rattle.std.proofs.Common.{◌≡◌, ℕ, ap, sym, ◌∙◌, refl, Bool, true, false, cond, List, length, map, set, get_or, Some}
-use Rattle.std.proofs.lemmas.List.{map-set, length-map}
-use Rattle.std.specs.Option.{unwrap_or}
-use Rattle.std.proofs.Math.Seq.{map-set_same}
-use Rattle.kpn_chan.specs.Channel.{ChannelState, with_room}
+use Rattle.kpn_machine.proofs.Common.{◌≡◌, ℕ, ap, sym, ◌∙◌, refl, Bool, true, false, cond, List, length, map, set, get_or, Some, map-set, length-map, unwrap_or, map-set_same, ChannelState, with_room}
 
 capacities_kept : (channels : List ChannelState) (c : ℕ) (channel d : ChannelState)
     → channel.capacity ≡ (get_or channels c d).capacity

@@ -1,35 +1,10 @@
 -- What holds at every moment of a run: the laws of legal histories, for the machine to which a history leads.
 use Rattle.std.proofs.Common.{◌≡◌, ◌↔◌, ℕ, ◌<◌, ◌≤◌, Bool, true, false, not, List, ◌∷◌, ◌++◌, length, map, Option, Some, None, refl, sym, ap, ◌∙◌, subst, inl, inr}
 use Rattle.std.specs.List.{Contains}
-use Rattle.std.proofs.lemmas.Bool.{cases_lt, both_ways}
-use Rattle.kpn_lang.specs.declared.talk.Said.{Said}
-use Rattle.kpn_lang.specs.Alone.{alone}
-use Rattle.kpn_lang.proofs.Prefixes.{IsPrefix-refl}
-use Rattle.kpn_net.specs.declared.wait.Wait.TheVariants.{Nobody}
-use Rattle.kpn_net.specs.Tables.{Tables, instance_at, program_of}
-use Rattle.kpn_net.specs.Faults.{IsNetwork}
-use Rattle.kpn_net.specs.Waits.{IsCycle, full_channels}
+use Rattle.kpn_machine.proofs.Common.{cases_lt, both_ways, Said, alone, IsPrefix-refl, Nobody, Tables, instance_at, program_of, IsNetwork, IsCycle, full_channels, Family, at_channel, residual, GoesOnAs, cap_in, unread, How, Event, talk_of, has_ended, read_on, fed, reader_lives, IsQuiet, OwesNothing, read_then_unread, in_limit, nothing_can_grow, ended_exactly, Machine, channel_in, wait_in, end_in, frame_in, capacities, IsEndOf, IsRun, IsQuietNow}
 use Rattle.kpn_net.specs.Iteration.{IsBelowLeast, IsLeast}
-use Rattle.kpn_net.specs.Process.{Family, at_channel}
-use Rattle.kpn_step.specs.Residual.{residual}
-use Rattle.kpn_step.specs.After.{GoesOnAs}
-use Rattle.kpn_cycle.specs.Scan.{cap_in}
-use Rattle.kpn_chan.specs.Channel.{unread}
-use Rattle.kpn_history.specs.declared.event.How.{How}
-use Rattle.kpn_history.specs.declared.event.Event.{Event}
-use Rattle.kpn_history.specs.Talks.{talk_of, has_ended}
-use Rattle.kpn_history.specs.Channels.{read_on, fed, reader_lives}
-use Rattle.kpn_history.specs.Ends.{IsQuiet}
-use Rattle.kpn_history.specs.Stops.{OwesNothing}
-use Rattle.kpn_history.proofs.Journals.{read_then_unread}
-use Rattle.kpn_history.proofs.Capacities.{in_limit}
-use Rattle.kpn_history.proofs.Growth.{nothing_can_grow}
 use Rattle.kpn_history.proofs.Kahn.{below_least_fed, least_if_quiet}
-use Rattle.kpn_history.proofs.EndsOnce.{ended_exactly}
 use Rattle.kpn_history.proofs.WaitsAfter.{ended_is_not_blocked}
-use Rattle.kpn_machine.specs.Machine.{Machine, channel_in, wait_in, end_in, frame_in, capacities}
-use Rattle.kpn_machine.specs.Run.{IsEndOf, IsRun}
-use Rattle.kpn_machine.specs.Quiet.{IsQuietNow}
 use Rattle.kpn_machine.proofs.Due.{unread_same}
 use Rattle.kpn_machine.proofs.Talking.{IsRestAfter-more}
 use Rattle.kpn_machine.proofs.Growing.{same_waits, same_capacity}

@@ -1,16 +1,6 @@
 -- Steps of a process between its events move only its frame: the same history leads to the machine after them.
 use Rattle.std.proofs.Common.{◌≡◌, ℕ, ◌<◌, IsTrue, List, length, sym, ◌∙◌, subst, inl, inr, arith, length-set}
-use Rattle.std.proofs.lemmas.Bool.{cases_eq}
-use Rattle.kpn_net.specs.Tables.{Tables, instance_at, program_of}
-use Rattle.kpn_step.specs.Frame.{Frame, fits}
-use Rattle.kpn_step.specs.Stops.{Advanced, IsAdvance, advanced_of}
-use Rattle.kpn_step.specs.declared.stop.Stop.{Stop}
-use Rattle.kpn_lang.specs.Parts.{Parts}
-use Rattle.kpn_step.specs.After.{IsAfter}
-use Rattle.kpn_step.proofs.After.{IsAfter-advance}
-use Rattle.kpn_history.specs.declared.event.Event.{Event}
-use Rattle.kpn_machine.specs.Machine.{Machine, frame_in, IsMachine, with_frame}
-use Rattle.kpn_machine.specs.Run.{StandsAfter, IsRun}
+use Rattle.kpn_machine.proofs.Common.{cases_eq, Tables, instance_at, program_of, Frame, fits, Advanced, IsAdvance, advanced_of, Stop, Parts, IsAfter, IsAfter-advance, Event, Machine, frame_in, IsMachine, with_frame, StandsAfter, IsRun}
 use Rattle.kpn_machine.proofs.Calls.{frame_in-same, frame_in-other}
 
 module _ (t : Tables) (s : Machine) (p : ℕ) (g : Frame) (there : p < length t.instances)

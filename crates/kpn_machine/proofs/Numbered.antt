@@ -1,10 +1,5 @@
 -- Lists with an entry for each channel, by the channels or by their numbers.
-use Rattle.std.proofs.Common.{◌≡◌, ℕ, ◌+◌, ◌<◌, List, [], ◌∷◌, ◌++◌, length, map, None, false, sym, ap, ◌∙◌, subst, arith}
-use Rattle.std.specs.List.{range_with_len}
-use Rattle.std.proofs.lemmas.List.{ext_get_or, length-map, get_or-map}
-use Rattle.std.proofs.lemmas.List.FromFn.{length-map-range_with_len, get_or-map-range_with_len, map-range_with_len_more}
-use Rattle.kpn_chan.specs.Channel.{ChannelState, opened}
-use Rattle.kpn_machine.specs.Machine.{Machine, channel_in}
+use Rattle.kpn_machine.proofs.Common.{◌≡◌, ℕ, ◌+◌, ◌<◌, List, [], ◌∷◌, ◌++◌, length, map, None, false, sym, ap, ◌∙◌, subst, arith, range_with_len, ext_get_or, length-map, get_or-map, length-map-range_with_len, get_or-map-range_with_len, map-range_with_len_more, ChannelState, opened, Machine, channel_in}
 
 pub by_number : {A : Type 0} (f : ChannelState → A) (s : Machine) (n : ℕ) → n ≡ length s.channels
     → map f s.channels ≡ map (λ c. f (channel_in s c)) (range_with_len 0 n)

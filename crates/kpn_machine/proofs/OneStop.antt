@@ -1,15 +1,8 @@
 -- A frame is at one stop, except for pauses: what it says and how it ends if no list has anything left tells the stop.
-use Rattle.std.proofs.Common.{◌≡◌, ◌≢◌, List, [], ◌∷◌, refl, sym, ap, ◌∙◌}
+use Rattle.kpn_machine.proofs.Common.{◌≡◌, ◌≢◌, List, [], ◌∷◌, refl, sym, ap, ◌∙◌, Ran, Said, Ending, Stop, WantRead, WantWrite, Done, Faulted, Paused, Frame, residual}
 use Rattle.kpn_lang.specs.Syntax.{Statement}
-use Rattle.kpn_lang.specs.Run.{Ran}
-use Rattle.kpn_lang.specs.declared.talk.Said.{Said}
 use Rattle.kpn_lang.specs.declared.talk.Said.TheVariants.{Put}
-use Rattle.kpn_lang.specs.declared.talk.Ending.{Ending}
 use Rattle.kpn_lang.specs.declared.talk.Ending.TheVariants as ending
-use Rattle.kpn_step.specs.declared.stop.Stop.{Stop}
-use Rattle.kpn_step.specs.declared.stop.Stop.TheVariants.{WantRead, WantWrite, Done, Faulted, Paused}
-use Rattle.kpn_step.specs.Frame.{Frame}
-use Rattle.kpn_step.specs.Residual.{residual}
 use Rattle.kpn_step.specs.Stops.{StandsAt}
 
 -- the stop at which a frame was that said this on empty lists and ended so

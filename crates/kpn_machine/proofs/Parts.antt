@@ -1,30 +1,10 @@
 -- What an event does to the parts of a machine: those that it touches, and the others.
 use Rattle.std.proofs.Common.{◌≡◌, ◌≢◌, ℕ, ◌+◌, ◌<◌, ◌≤◌, Bool, true, false, not, ◌&&◌, ◌||◌, ◌∷◌, max, ℤ, cond, eqb, eq-eqb, eqb-true, arith, IsTrue, List, [], ◌++◌, length, get_or, set, Option, Some, None, is_some, refl, sym, ap, ◌∙◌, subst, inl, inr, append-nil, add-zero}
-use Rattle.std.specs.Option.{option_map}
-use Rattle.std.proofs.lemmas.Bool.{cases_eq, ne_eqb, both_ways}
-use Rattle.std.proofs.lemmas.List.{get_or-set_same, get_or-set_other}
+use Rattle.kpn_machine.proofs.Common.{option_map, cases_eq, ne_eqb, both_ways, get_or-set_same, get_or-set_other, Wait, End, Tables, channel_at, is_source, larger_capacity, writer_of, reader_of, program_of, larger_capacity_is_some, wait_at, IsOwnWait, AreWaits, Frame, fits, fits-passed, fits-passed_with, ChannelState, opened, unread, is_channel_full, fills, most_after, most_after_put, Event, is_of, is_end_of, written_in, read_in, is_leave_of, wait_made, wakes, wait_then, capacity_then, takes_end, takes_reader, no_source, none_elsewhere, Machine, channel_in, wait_in, IsMachine, IsChannelAfter, PassesRead, PassesWrite, IsFrameAfter, Changes, is_wait_on_full, is_wait_on_empty, AreWoken}
 use Rattle.kpn_lang.proofs.Programs.{not_past}
-use Rattle.kpn_net.specs.declared.wait.Wait.{Wait}
 use Rattle.kpn_net.specs.declared.wait.Wait.TheVariants.{Nobody, Empty, Full}
-use Rattle.kpn_net.specs.declared.tables.End.{End}
 use Rattle.kpn_net.specs.declared.tables.End.TheVariants as end
-use Rattle.kpn_net.specs.Tables.{Tables, channel_at, is_source, larger_capacity, writer_of, reader_of, program_of}
-use Rattle.kpn_net.proofs.Networks.{larger_capacity_is_some}
-use Rattle.kpn_net.specs.Waits.{wait_at, IsOwnWait, AreWaits}
-use Rattle.kpn_step.specs.Frame.{Frame, fits}
-use Rattle.kpn_step.proofs.Places.{fits-passed, fits-passed_with}
-use Rattle.kpn_chan.specs.Channel.{ChannelState, opened, unread, is_channel_full, fills, most_after, most_after_put}
-use Rattle.kpn_history.specs.declared.event.Event.{Event}
 use Rattle.kpn_history.specs.declared.event.Event.TheVariants.{Get, Put, WaitEmpty, WaitFull, Feed, Close, Take, Leave, Grow}
-use Rattle.kpn_history.specs.Talks.{is_of, is_end_of}
-use Rattle.kpn_history.specs.Channels.{written_in, read_in, is_leave_of}
-use Rattle.kpn_history.specs.WaitsAfter.{wait_made}
-use Rattle.kpn_history.specs.Waking.{wakes, wait_then}
-use Rattle.kpn_history.specs.AfterEvent.{capacity_then, takes_end, takes_reader}
-use Rattle.kpn_history.proofs.Journals.{no_source, none_elsewhere}
-use Rattle.kpn_machine.specs.Machine.{Machine, channel_in, wait_in, IsMachine}
-use Rattle.kpn_machine.specs.Changes.{IsChannelAfter, PassesRead, PassesWrite, IsFrameAfter, Changes}
-use Rattle.kpn_machine.specs.Woken.{is_wait_on_full, is_wait_on_empty, AreWoken}
 
 pub or-false : (b : Bool) → (b || false) ≡ b
 or-false true = refl

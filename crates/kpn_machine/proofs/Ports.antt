@@ -1,19 +1,8 @@
 -- The port at which a process reads or writes is one of its own. The channel that it is about to read or write is one of
 -- the network, and its own.
-use Rattle.std.proofs.Common.{◌≡◌, ℕ, ◌<◌, ℤ, List, length, subst, arith}
+use Rattle.kpn_machine.proofs.Common.{◌≡◌, ℕ, ◌<◌, ℤ, List, length, subst, arith, Contains-get_or, Process, Tables, writer_of, reader_of, instance_at, program_of, IsNetwork, IsProgram-of, IsInstance-of, reads_its_ins, writes_its_outs, in_is_there, out_is_there, WantRead, WantWrite, StandsAtRead, StandsAtWrite, Machine, frame_in, IsChannelAt, Stands, ReadsFrom, WritesTo}
 use Rattle.std.specs.List.{Contains}
-use Rattle.std.proofs.lemmas.List.Elements.{Contains-get_or}
-use Rattle.kpn_net.specs.declared.tables.End.TheVariants.{Process}
-use Rattle.kpn_net.specs.Tables.{Tables, writer_of, reader_of, instance_at, program_of}
-use Rattle.kpn_net.specs.Faults.{IsNetwork}
-use Rattle.kpn_net.proofs.Networks.{IsProgram-of, IsInstance-of}
-use Rattle.kpn_net.proofs.PortsApart.{reads_its_ins, writes_its_outs, in_is_there, out_is_there}
-use Rattle.kpn_step.specs.declared.stop.Stop.TheVariants.{WantRead, WantWrite}
-use Rattle.kpn_step.specs.Stops.{StandsAtRead, StandsAtWrite}
 use Rattle.kpn_step.proofs.MayStep.{at_port}
-use Rattle.kpn_machine.specs.Machine.{Machine, frame_in}
-use Rattle.kpn_machine.specs.Changes.{IsChannelAt}
-use Rattle.kpn_machine.specs.Due.{Stands, ReadsFrom, WritesTo}
 
 among : (ports : List ℕ) (port c : ℕ) → IsChannelAt ports port c → Contains ports c
 among ports port c at = subst (λ x. Contains ports x) at.1 (Contains-get_or ports port 0 at.0)

@@ -1,15 +1,7 @@
 -- What makes room on a channel changes nothing that a history records.
 use Rattle.std.proofs.Common.{◌≡◌, ℕ, ◌<◌, ◌≤◌, Bool, true, false, not, cond, IsTrue, ℤ, List, [], ◌∷◌, length, None, is_some, Some, refl, sym, ap, ◌∙◌, subst, inl, inr, length-set}
-use Rattle.std.proofs.lemmas.Bool.{cases_eq}
-use Rattle.std.proofs.lemmas.List.{get_or-set_same, get_or-set_other, set-get_or}
+use Rattle.kpn_machine.proofs.Common.{cases_eq, get_or-set_same, get_or-set_other, set-get_or, Tables, channel_at, is_source, ChannelState, opened, with_room, roomy, with_reserved, most_after, Event, written_in, Machine, channel_in, wait_in, IsMachine, with_channel, HoldsChannel, IsRun, IsChannelAfter, Changes}
 use Rattle.kpn_net.specs.declared.wait.Wait.TheVariants.{Full}
-use Rattle.kpn_net.specs.Tables.{Tables, channel_at, is_source}
-use Rattle.kpn_chan.specs.Channel.{ChannelState, opened, with_room, roomy, with_reserved, most_after}
-use Rattle.kpn_history.specs.declared.event.Event.{Event}
-use Rattle.kpn_history.specs.Channels.{written_in}
-use Rattle.kpn_machine.specs.Machine.{Machine, channel_in, wait_in, IsMachine, with_channel}
-use Rattle.kpn_machine.specs.Run.{HoldsChannel, IsRun}
-use Rattle.kpn_machine.specs.Changes.{IsChannelAfter, Changes}
 
 -- a channel with as much room as before or more, and else the same
 pub record HasRoomOf (before after : ChannelState) : Type 0 where

@@ -1,12 +1,5 @@
 -- The run after a call: its event was due, and the machine is as this event leaves it.
-use Rattle.std.proofs.Common.{List, [], ◌∷◌, ◌++◌}
-use Rattle.kpn_net.specs.Tables.{Tables}
-use Rattle.kpn_net.specs.Faults.{IsNetwork}
-use Rattle.kpn_history.specs.declared.event.Event.{Event}
-use Rattle.kpn_history.specs.Legal.{Legal}
-use Rattle.kpn_machine.specs.Machine.{Machine, IsMachine}
-use Rattle.kpn_machine.specs.Run.{IsRun}
-use Rattle.kpn_machine.specs.Changes.{Changes}
+use Rattle.kpn_machine.proofs.Common.{List, [], ◌∷◌, ◌++◌, Tables, IsNetwork, Event, Legal, Machine, IsMachine, IsRun, Changes}
 use Rattle.kpn_machine.proofs.Leading.{LeadsToMachine-next}
 
 pub IsRun-next : (t : Tables) → IsNetwork t → (H : List Event) (e : Event) (before after : Machine)

@@ -2,24 +2,9 @@
 use Rattle.std.proofs.Common.{◌≡◌, ◌≢◌, ◌↔◌, ℕ, ◌<◌, Bool, true, false, not, ℤ, eqb, List, [], ◌∷◌, length, Option, Some, None, refl, sym, ap, ◌∙◌, subst, inl, inr, ◌⊎◌, arith}
 use Rattle.std.specs.List.{Contains}
 use Rattle.std.proofs.lemmas.Bool.{eqb-true, both_ways}
-use Rattle.kpn_net.specs.declared.wait.Wait.{Wait}
+use Rattle.kpn_machine.proofs.Common.{Wait, Tables, channel_at, is_sink, IsNetwork, IsCycle, full_channels, reader_of-sink, How, Event, Verdict, has_ended, is_left, lives, HasFullCycle, HasStopped, IsSettled, HasFullWait, IsVerdict, ended_exactly, Machine, channel_in, wait_in, end_in, IsEndOf, IsRun, IsSettledNow, HasFullCycleNow, HasFullWaitNow, IsVerdictNow}
 use Rattle.kpn_net.specs.declared.wait.Wait.TheVariants.{Nobody, Empty, Full}
-use Rattle.kpn_net.specs.Tables.{Tables, channel_at, is_sink}
-use Rattle.kpn_net.specs.Faults.{IsNetwork}
-use Rattle.kpn_net.specs.Waits.{IsCycle, full_channels}
-use Rattle.kpn_net.proofs.Networks.{reader_of-sink}
-use Rattle.kpn_history.specs.declared.event.How.{How}
-use Rattle.kpn_history.specs.declared.event.Event.{Event}
-use Rattle.kpn_history.specs.declared.state.Verdict.{Verdict}
 use Rattle.kpn_history.specs.declared.state.Verdict.TheVariants.{Ended, Clogged, Jammed}
-use Rattle.kpn_history.specs.Talks.{has_ended}
-use Rattle.kpn_history.specs.Channels.{is_left, lives}
-use Rattle.kpn_history.specs.Waiting.{HasFullCycle}
-use Rattle.kpn_history.specs.Ends.{HasStopped, IsSettled, HasFullWait, IsVerdict}
-use Rattle.kpn_history.proofs.EndsOnce.{ended_exactly}
-use Rattle.kpn_machine.specs.Machine.{Machine, channel_in, wait_in, end_in}
-use Rattle.kpn_machine.specs.Run.{IsEndOf, IsRun}
-use Rattle.kpn_machine.specs.Settled.{IsSettledNow, HasFullCycleNow, HasFullWaitNow, IsVerdictNow}
 use Rattle.kpn_machine.proofs.Due.{unread_same, empty_same}
 use Rattle.kpn_machine.proofs.Growing.{same_waits}
 

@@ -1,29 +1,8 @@
 -- At the start: the empty history leads to the machine in which nothing has happened.
-use Rattle.std.proofs.Common.{◌≡◌, ℕ, ◌+◌, ◌<◌, ◌≤◌, length-append, Bool, true, false, not, IsTrue, List, [], ◌∷◌, ◌++◌, length, get_or, map, replicate, Option, Some, None, is_some, refl, sym, ap, ◌∙◌, subst, inl, inr, arith}
-use Rattle.std.specs.Option.{unwrap_or, option_map}
-use Rattle.std.proofs.lemmas.Bool.{cases_eq}
-use Rattle.std.proofs.lemmas.List.{length-replicate, get_or-replicate, get_or_append_left, get_or_push, get_or-map, length-map, ext_get_or}
-use Rattle.kpn_net.specs.declared.tables.ChannelSpec.{ChannelSpec}
+use Rattle.kpn_machine.proofs.Common.{◌≡◌, ℕ, ◌+◌, ◌<◌, ◌≤◌, length-append, Bool, true, false, not, IsTrue, List, [], ◌∷◌, ◌++◌, length, get_or, map, replicate, Option, Some, None, is_some, refl, sym, ap, ◌∙◌, subst, inl, inr, arith, unwrap_or, option_map, cases_eq, length-replicate, get_or-replicate, get_or_append_left, get_or_push, get_or-map, length-map, ext_get_or, ChannelSpec, End, Process, Source, Sink, Tables, channel_at, is_source, capacity, reader_of, instance_at, program_of, IsNetwork, waits-nobody, IsProgram-of, IsInstance-of, reader_is_no_source, capacity_in_range, start_frame, fits, IsAfter, AreWaits, fits-start, IsAfter-start, ChannelState, opened, opened_as, keeps_items, reader_lives, lives, after_growths, Legal-nil, Machine, channel_in, wait_in, frame_in, HoldsChannel, IsEndOf, StandsAfter, IsRun}
 use Rattle.kpn_net.specs.declared.tables.ChannelSpec.TheVariants as channel
-use Rattle.kpn_net.specs.declared.tables.End.{End}
-use Rattle.kpn_net.specs.declared.tables.End.TheVariants.{Process, Source, Sink}
 use Rattle.kpn_net.specs.declared.wait.Wait.TheVariants.{Nobody, Full}
-use Rattle.kpn_net.specs.Tables.{Tables, channel_at, is_source, capacity, reader_of, instance_at, program_of}
-use Rattle.kpn_net.specs.Faults.{IsNetwork}
-use Rattle.kpn_net.proofs.WaitTables.{waits-nobody}
-use Rattle.kpn_net.proofs.Networks.{IsProgram-of, IsInstance-of, reader_is_no_source, capacity_in_range}
-use Rattle.kpn_step.specs.Frame.{start_frame, fits}
-use Rattle.kpn_step.specs.After.{IsAfter}
-use Rattle.kpn_net.specs.Waits.{AreWaits}
-use Rattle.kpn_step.proofs.Places.{fits-start}
-use Rattle.kpn_step.proofs.After.{IsAfter-start}
-use Rattle.kpn_chan.specs.Channel.{ChannelState, opened, opened_as}
 use Rattle.kpn_history.specs.declared.keeping.Keeping.{Keeping}
-use Rattle.kpn_history.specs.Keeping.{keeps_items}
-use Rattle.kpn_history.specs.Channels.{reader_lives, lives, after_growths}
-use Rattle.kpn_history.proofs.Legality.{Legal-nil}
-use Rattle.kpn_machine.specs.Machine.{Machine, channel_in, wait_in, frame_in}
-use Rattle.kpn_machine.specs.Run.{HoldsChannel, IsEndOf, StandsAfter, IsRun}
 
 -- one more at the end of a list
 pub len_push : {X : Type 0} (xs ys : List X) (x : X) (n : ℕ) → ys ≡ xs ++ x ∷ [] → length xs ≡ n → length ys ≡ n + 1

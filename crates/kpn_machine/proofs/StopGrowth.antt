@@ -1,26 +1,11 @@
 -- The growth that is owed at a stop: the machine and the history agree on it.
 use Rattle.std.proofs.Common.{◌≡◌, ◌↔◌, ℕ, ◌<◌, ◌≤◌, Bool, true, false, cond, ltb, List, length, Option, Some, None, refl, sym, ◌∙◌, subst, arith}
 use Rattle.std.specs.Prelude.{Contains, IfSome}
-use Rattle.std.proofs.lemmas.Bool.{ltb-true, ltb-false}
+use Rattle.kpn_machine.proofs.Common.{ltb-true, ltb-false, Process, Tables, writer_of, IsNetwork, IsSmallest, FindsSmallest, IsOwnWait, awaited_as_full, Contains-none, smallest_unique, smallest_with_same_capacities, cap_in, Event, capacity_or_zero, waits_of, OwesStopGrowth, OwesNoCycleGrowth, Machine, IsMachine, capacities, wait_in, IsRun, IsSettledNow, IsOwedAtStop, IsAwaitedBelowLimit, channel_to_grow}
 use Rattle.kpn_net.specs.declared.wait.Wait.TheVariants.{Full}
 use Rattle.kpn_net.specs.declared.found.Found.TheVariants as found
-use Rattle.kpn_net.specs.declared.tables.End.TheVariants.{Process}
 use Rattle.kpn_net.specs.declared.tables.Policy.TheVariants.{All}
-use Rattle.kpn_net.specs.Tables.{Tables, writer_of}
-use Rattle.kpn_net.specs.Faults.{IsNetwork}
-use Rattle.kpn_net.specs.Waits.{IsSmallest, FindsSmallest, IsOwnWait, awaited_as_full}
 use Rattle.kpn_net.proofs.Awaited.{awaited_by}
-use Rattle.kpn_net.proofs.Cycles.{Contains-none, smallest_unique, smallest_with_same_capacities}
-use Rattle.kpn_cycle.specs.Scan.{cap_in}
-use Rattle.kpn_history.specs.declared.event.Event.{Event}
-use Rattle.kpn_history.specs.Channels.{capacity_or_zero}
-use Rattle.kpn_history.specs.Waiting.{waits_of}
-use Rattle.kpn_history.specs.Legal.{OwesStopGrowth}
-use Rattle.kpn_history.specs.Stops.{OwesNoCycleGrowth}
-use Rattle.kpn_machine.specs.Machine.{Machine, IsMachine, capacities, wait_in}
-use Rattle.kpn_machine.specs.Run.{IsRun}
-use Rattle.kpn_machine.specs.Settled.{IsSettledNow}
-use Rattle.kpn_machine.specs.Owed.{IsOwedAtStop, IsAwaitedBelowLimit, channel_to_grow}
 use Rattle.kpn_machine.proofs.Growing.{same_waits, same_capacity, full_wait}
 use Rattle.kpn_machine.proofs.Settling.{settled_now}
 

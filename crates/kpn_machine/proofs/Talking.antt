@@ -1,34 +1,11 @@
 -- What a process can say and come to after a history, by the stop at its frame.
 use Rattle.std.proofs.Common.{◌≡◌, ◌≢◌, ℕ, ◌<◌, ◌≤◌, cond, eq-eqb, List, [], ◌∷◌, ◌++◌, length, get_or, map, refl, sym, ap, ◌∙◌, subst, inl, inr, arith}
-use Rattle.std.proofs.lemmas.Bool.{cases_eq, cases_lt, ne_eqb}
-use Rattle.std.proofs.lemmas.List.{get_or_past, get_or-map, length-map, map-append}
-use Rattle.std.proofs.lemmas.List.Elements.{Contains-get_or}
-use Rattle.kpn_lang.specs.declared.talk.Said.{Said}
+use Rattle.kpn_machine.proofs.Common.{cases_eq, cases_lt, ne_eqb, get_or_past, get_or-map, length-map, map-append, Contains-get_or, Said, Ending, IsPrefix, list_at, got_at, Instance, Tables, instance_at, program_of, IsNetwork, Family, talk_on, ProcessCanSay, ProcessComesTo, at_channel, ends_at_channel, AreDistinct, reads_its_ins, ins_distinct, one_port, Stop, Frame, IsRestAfter, SaysNext, EndsThere, next_said, end_reached, Event, talk_of, read_on, Legal, read_on-got, NamesInsBelow, StandsAfter}
 use Rattle.kpn_lang.specs.declared.talk.Said.TheVariants as said
-use Rattle.kpn_lang.specs.declared.talk.Ending.{Ending}
 use Rattle.kpn_lang.specs.declared.talk.Ending.TheVariants as ending
-use Rattle.kpn_lang.specs.Prefix.{IsPrefix}
-use Rattle.kpn_lang.specs.Run.{list_at}
-use Rattle.kpn_lang.specs.Alone.{got_at}
-use Rattle.kpn_net.specs.declared.tables.Instance.{Instance}
-use Rattle.kpn_net.specs.Tables.{Tables, instance_at, program_of}
-use Rattle.kpn_net.specs.Faults.{IsNetwork}
-use Rattle.kpn_net.specs.Process.{Family, talk_on, ProcessCanSay, ProcessComesTo, at_channel, ends_at_channel}
-use Rattle.kpn_net.specs.Waits.{AreDistinct}
 use Rattle.kpn_net.proofs.Monotone.{map-prefix}
-use Rattle.kpn_net.proofs.PortsApart.{reads_its_ins, ins_distinct, one_port}
-use Rattle.kpn_step.specs.declared.stop.Stop.{Stop}
 use Rattle.kpn_step.specs.declared.stop.Stop.TheVariants as stop
 use Rattle.kpn_step.specs.Stops.{StandsAt}
-use Rattle.kpn_step.specs.Frame.{Frame}
-use Rattle.kpn_step.specs.After.{IsRestAfter, SaysNext, EndsThere}
-use Rattle.kpn_step.proofs.After.{next_said, end_reached}
-use Rattle.kpn_history.specs.declared.event.Event.{Event}
-use Rattle.kpn_history.specs.Talks.{talk_of}
-use Rattle.kpn_history.specs.Channels.{read_on}
-use Rattle.kpn_history.specs.Legal.{Legal}
-use Rattle.kpn_history.proofs.Journals.{read_on-got}
-use Rattle.kpn_machine.specs.Run.{NamesInsBelow, StandsAfter}
 
 -- ---- what was got at a port was got from its channel
 

@@ -1,26 +1,10 @@
 -- The code's tests of each process and each channel decide whether a moment is quiet or settled, and the verdict.
 use Rattle.std.proofs.Common.{◌≡◌, ◌↔◌, ℕ, ◌+◌, ◌<◌, Bool, true, false, not, ◌||◌, ◌&&◌, cond, IsTrue, ℤ, List, [], ◌∷◌, length, slice_get, Option, Some, None, is_some, refl, sym, ap, ◌∙◌, subst, inl, inr, ◌⊎◌, arith}
-use Rattle.std.proofs.lemmas.Bool.{cases_lt, both_ways}
-use Rattle.kpn_net.specs.declared.wait.Wait.{Wait}
+use Rattle.kpn_machine.proofs.Common.{cases_lt, both_ways, Wait, Found, ChannelSpec, Tables, channel_at, is_source, is_sink, full_channels, Finds, IsSmallestOfCycle, Contains-first, cycle_below, smallest_among, finding_unique, unread, next_item, cap_in, How, Verdict, Machine, channel_in, closed_in, wait_in, end_in, capacities, is_empty_wait, IsQuietNow, IsOutsideDone, HasFullCycleNow, IsVerdictNow, is_quiet_at, awaits_outside}
 use Rattle.kpn_net.specs.declared.wait.Wait.TheVariants.{Nobody, Empty, Full}
-use Rattle.kpn_net.specs.declared.found.Found.{Found}
 use Rattle.kpn_net.specs.declared.found.Found.TheVariants as found
-use Rattle.kpn_net.specs.declared.tables.ChannelSpec.{ChannelSpec}
 use Rattle.kpn_net.specs.declared.tables.ChannelSpec.TheVariants as channel
-use Rattle.kpn_net.specs.Tables.{Tables, channel_at, is_source, is_sink}
-use Rattle.kpn_net.specs.Waits.{full_channels}
-use Rattle.kpn_net.specs.Finding.{Finds, IsSmallestOfCycle}
-use Rattle.kpn_net.proofs.Cycles.{Contains-first, cycle_below, smallest_among}
-use Rattle.kpn_net.proofs.Findings.{finding_unique}
-use Rattle.kpn_chan.specs.Channel.{unread, next_item}
-use Rattle.kpn_cycle.specs.Scan.{cap_in}
-use Rattle.kpn_history.specs.declared.event.How.{How}
-use Rattle.kpn_history.specs.declared.state.Verdict.{Verdict}
 use Rattle.kpn_history.specs.declared.state.Verdict.TheVariants.{Ended, Clogged, Jammed}
-use Rattle.kpn_machine.specs.Machine.{Machine, channel_in, closed_in, wait_in, end_in, capacities, is_empty_wait}
-use Rattle.kpn_machine.specs.Quiet.{IsQuietNow}
-use Rattle.kpn_machine.specs.Settled.{IsOutsideDone, HasFullCycleNow, IsVerdictNow}
-use Rattle.kpn_machine.specs.Stopped.{is_quiet_at, awaits_outside}
 
 -- ---- answers of tests
 

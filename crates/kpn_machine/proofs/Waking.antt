@@ -2,25 +2,9 @@
 -- empty. Exactly the processes that are woken become free.
 use Rattle.std.proofs.Common.{◌≡◌, ◌↔◌, ℕ, ◌<◌, Bool, true, false, cond, List, [], ◌∷◌, length, Option, Some, None, refl, sym, ap, ◌∙◌, subst, inl, inr, ◌⊎◌}
 use Rattle.std.specs.List.{Contains, filter_map, cons_option}
-use Rattle.std.proofs.lemmas.Bool.{false≢true}
-use Rattle.kpn_net.specs.declared.wait.Wait.{Wait}
+use Rattle.kpn_machine.proofs.Common.{false≢true, Wait, Tables, instance_at, IsNetwork, wait_at, IsOwnWait, AreWaits, AreDistinct, Contains-none, Contains-first, Contains-later, Contains-cases, reads_its_ins, ins_distinct, How, Event, is_of, wait_made, wakes, WaitsAsFullFor, IsWoken, woken, Machine, wait_in, end_in, IsFree, IsRun, end_then, Changes, waiting_writer, waiting_reader}
 use Rattle.kpn_net.specs.declared.wait.Wait.TheVariants.{Nobody, Empty, Full}
-use Rattle.kpn_net.specs.Tables.{Tables, instance_at}
-use Rattle.kpn_net.specs.Faults.{IsNetwork}
-use Rattle.kpn_net.specs.Waits.{wait_at, IsOwnWait, AreWaits, AreDistinct}
-use Rattle.kpn_net.proofs.Cycles.{Contains-none, Contains-first, Contains-later, Contains-cases}
-use Rattle.kpn_net.proofs.PortsApart.{reads_its_ins, ins_distinct}
-use Rattle.kpn_history.specs.declared.event.How.{How}
-use Rattle.kpn_history.specs.declared.event.Event.{Event}
 use Rattle.kpn_history.specs.declared.event.Event.TheVariants.{Ended}
-use Rattle.kpn_history.specs.Talks.{is_of}
-use Rattle.kpn_history.specs.WaitsAfter.{wait_made}
-use Rattle.kpn_history.specs.Waking.{wakes, WaitsAsFullFor, IsWoken}
-use Rattle.kpn_history.proofs.Waking.{woken}
-use Rattle.kpn_machine.specs.Machine.{Machine, wait_in, end_in, IsFree}
-use Rattle.kpn_machine.specs.Run.{IsRun}
-use Rattle.kpn_machine.specs.Changes.{end_then, Changes}
-use Rattle.kpn_machine.specs.Woken.{waiting_writer, waiting_reader}
 use Rattle.kpn_machine.proofs.Moments.{ended_waits_for_nobody}
 use Rattle.kpn_machine.proofs.Woken.{who_waits}
 

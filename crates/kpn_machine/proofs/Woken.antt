@@ -1,16 +1,8 @@
 -- Which process waits for something at an end of a channel, and the table of waits after it is woken.
 use Rattle.std.proofs.Common.{◌≡◌, ◌≢◌, ◌↔◌, ℕ, ◌<◌, Bool, true, false, cond, eq-eqb, List, length, Option, Some, None, refl, sym, ap, ◌∙◌, subst, inl, inr, arith}
 use Rattle.std.proofs.lemmas.Bool.{cases_Bool, cases_eq, cases_lt, eqb-true, false≢true}
-use Rattle.std.proofs.lemmas.List.{get_or-set_same, get_or-set_other, get_or_past}
-use Rattle.kpn_net.specs.declared.wait.Wait.{Wait}
+use Rattle.kpn_machine.proofs.Common.{get_or-set_same, get_or-set_other, get_or_past, Wait, End, Process, Source, Sink, Tables, writer_of, reader_of, wait_at, IsOwnWait, AreWaits, Writes-writer_of, Reads-reader_of, waits-set, is_wait, waiting_at, free_now, woken_at, AreWoken}
 use Rattle.kpn_net.specs.declared.wait.Wait.TheVariants.{Nobody, Empty, Full}
-use Rattle.kpn_net.specs.declared.tables.End.{End}
-use Rattle.kpn_net.specs.declared.tables.End.TheVariants.{Process, Source, Sink}
-use Rattle.kpn_net.specs.Tables.{Tables, writer_of, reader_of}
-use Rattle.kpn_net.specs.Waits.{wait_at, IsOwnWait, AreWaits}
-use Rattle.kpn_net.proofs.Networks.{Writes-writer_of, Reads-reader_of}
-use Rattle.kpn_net.proofs.WaitTables.{waits-set}
-use Rattle.kpn_machine.specs.Woken.{is_wait, waiting_at, free_now, woken_at, AreWoken}
 
 -- ---- one wait
 

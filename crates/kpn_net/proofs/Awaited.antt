@@ -1,12 +1,6 @@
 -- The channels on which processes of a wait table wait as full. Each such process has its channel among them, and a
 -- process waits on each of them.
-use Rattle.std.specs.Prelude.{Contains}
-use Rattle.std.specs.List.{cons_option, filter_map, range_with_len}
-use Rattle.std.proofs.Common.{◌≡◌, ℕ, suc, zero, ◌+◌, ◌<◌, ◌≤◌, List, length, Option, Some, None, sym, subst, inl, inr, arith}
-use Rattle.std.proofs.lemmas.Bool.{cases_lt}
-use Rattle.kpn_net.specs.declared.wait.Wait.{Wait}
-use Rattle.kpn_net.specs.Tables.{Tables}
-use Rattle.kpn_net.specs.Waits.{wait_at, full_channel, awaited_as_full}
+use Rattle.kpn_net.proofs.Common.{Contains, cons_option, filter_map, range_with_len, ◌≡◌, ℕ, suc, zero, ◌+◌, ◌<◌, ◌≤◌, List, length, Option, Some, None, sym, subst, inl, inr, arith, cases_lt, Wait, Tables, wait_at, full_channel, awaited_as_full}
 use Rattle.kpn_net.proofs.Cycles.{Contains-first, Contains-later, Contains-cases, Contains-none, full_at}
 
 -- a number from a on, n numbers in all

@@ -1,16 +1,9 @@
 -- What a search finds of the cycles through processes. It is only one thing, it depends on no capacity of a source, and
 -- it is the same from each member.
-use Rattle.std.proofs.Common.{◌≡◌, ℕ, ◌<◌, false, List, ◌∷◌, length, Some, refl, ap, ◌∙◌, subst}
-use Rattle.std.specs.Prelude.{Contains}
-use Rattle.std.proofs.lemmas.Bool.{false_from_ne_true}
-use Rattle.kpn_net.specs.declared.wait.Wait.{Wait}
+use Rattle.kpn_net.proofs.Common.{◌≡◌, ℕ, ◌<◌, false, List, ◌∷◌, length, Some, refl, ap, ◌∙◌, subst, Contains, false_from_ne_true, Wait, Process, Tables, writer_of, reader_of, channel_at, is_source, IsNetwork, wait_at, full_channel, IsOwnWait, AreWaits, IsCycle, full_channels, IsSmallest}
 use Rattle.kpn_net.specs.declared.wait.Wait.TheVariants as wait
 use Rattle.kpn_net.specs.declared.found.Found.{Found}
 use Rattle.kpn_net.specs.declared.found.Found.TheVariants.{NoCycle, AllEmpty, Full}
-use Rattle.kpn_net.specs.declared.tables.End.TheVariants.{Process}
-use Rattle.kpn_net.specs.Tables.{Tables, writer_of, reader_of, channel_at, is_source}
-use Rattle.kpn_net.specs.Faults.{IsNetwork}
-use Rattle.kpn_net.specs.Waits.{wait_at, full_channel, IsOwnWait, AreWaits, IsCycle, full_channels, IsSmallest}
 use Rattle.kpn_net.specs.Finding.{IsCycleWithoutFull, IsSmallestOfCycle, Finds}
 use Rattle.kpn_net.proofs.Networks.{Writes-writer_of, Writes-below, Reads-reader_of, Reads-below, writer_of-source}
 use Rattle.kpn_net.proofs.Cycles.{Contains-none, cycle_unique, cycle_below, smallest_unique, smallest_permuted, smallest_with_same_capacities, full_at, rotated}

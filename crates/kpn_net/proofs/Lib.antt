@@ -1,3 +1,4 @@
+pub mod Common
 pub mod Monotone
 pub mod SideLemmas
 pub mod Networks

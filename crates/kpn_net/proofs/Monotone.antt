@@ -1,18 +1,11 @@
 -- Kahn's iteration is monotone. What a process puts grows with its turns and with the lists that come in: in Kahn 1974
 -- a process is a continuous and so monotone function. So each round grows with the rounds before it and with the given
 -- lists.
-use Rattle.std.proofs.Common.{◌≡◌, ℕ, zero, suc, ◌≤◌, cond, Bool, true, false, List, [], ◌∷◌, map, refl, sym, ap, arith}
-use Rattle.kpn_lang.specs.Prefix.{IsPrefix, ArePrefixes}
-use Rattle.kpn_lang.specs.Alone.{alone}
-use Rattle.kpn_lang.proofs.Prefixes.{IsPrefix-refl, IsPrefix-same, IsPrefix-trans, IsPrefix-antisym}
+use Rattle.kpn_net.proofs.Common.{◌≡◌, ℕ, zero, suc, ◌≤◌, cond, Bool, true, false, List, [], ◌∷◌, map, refl, sym, ap, arith, IsPrefix, ArePrefixes, alone, IsPrefix-refl, IsPrefix-same, IsPrefix-trans, IsPrefix-antisym, Process, Source, Sink, Tables, instance_at, program_of, channel_at, is_source, writer_of, Family, IsFamilyPrefix, at_channel, talk_on, out_of, written_by, given_or, round, iterate, IsPrefixOnSources, AgreeOnSources, IsClosed, IsBelowLeast, IsLeast}
 use Rattle.kpn_lang.proofs.Talks.{put_at-prefix}
 use Rattle.kpn_lang.proofs.Sequential.{IsSequential-alone}
 use Rattle.kpn_lang.proofs.Processes.{talk_further}
 use Rattle.kpn_net.specs.declared.tables.End.{End}
-use Rattle.kpn_net.specs.declared.tables.End.TheVariants.{Process, Source, Sink}
-use Rattle.kpn_net.specs.Tables.{Tables, instance_at, program_of, channel_at, is_source, writer_of}
-use Rattle.kpn_net.specs.Process.{Family, IsFamilyPrefix, at_channel, talk_on, out_of}
-use Rattle.kpn_net.specs.Iteration.{written_by, given_or, round, iterate, IsPrefixOnSources, AgreeOnSources, IsClosed, IsBelowLeast, IsLeast}
 
 pub map-prefix : {A B : Type 0} (f : A → B) (xs ys : List A) → IsPrefix xs ys → IsPrefix (map f xs) (map f ys)
 map-prefix f [] ys p = tt

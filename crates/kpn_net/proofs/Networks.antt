@@ -1,26 +1,12 @@
 -- What holds of tables that keep the rules: each channel has one writer and one reader, and these agree with the ports
 -- of the instances.
-use Rattle.std.proofs.Common.{◌≡◌, ℕ, zero, suc, ◌+◌, ◌<◌, ◌≤◌, cond, Bool, true, false, ◌&&◌, ◌||◌, ◌⊎◌, eqb, eq-eqb, add-zero, zero-add, leb, ltb, List, [], ◌∷◌, ◌++◌, length, get_or, map, Option, Some, None, refl, sym, ap, ◌∙◌, subst, inl, inr, arith}
-use Rattle.std.specs.List.{position, position_or_len, list_any, range_with_len, slice_get}
+use Rattle.kpn_net.proofs.Common.{◌≡◌, ℕ, zero, suc, ◌+◌, ◌<◌, ◌≤◌, cond, Bool, true, false, ◌&&◌, ◌||◌, ◌⊎◌, eqb, eq-eqb, add-zero, zero-add, leb, ltb, List, [], ◌∷◌, ◌++◌, length, get_or, map, Option, Some, None, refl, sym, ap, ◌∙◌, subst, inl, inr, arith, position, position_or_len, list_any, range_with_len, slice_get, get_or_past, fails_before_first, get_or-map-range_with_len, length-map-range_with_len, cases_lt, false≢true, false_from_ne_true, ltb-false, leb-false, eqb-true, eqb-false, or_parts, and_parts, not-false, both_ways, MAX_PROCESSES, MAX_CHANNELS, MAX_CAPACITY, Parts, IsProgram, NetFault, NoSuchProgram, PortCount, NoSuchChannel, NoWriter, TwoWriters, NoReader, TwoReaders, Capacity, Instance, Process, Source, Sink, Growth, Tables, program_at, instance_at, program_of, channel_at, capacity, is_source, is_sink, grown_capacity, larger_capacity, ends_among, ends_from, writers_of, readers_of, writer_of, reader_of, has_too_many, lacks_its_program, matches_program, differs_from_its_program, lacks_a_channel, exceeds, has_no_such_capacity, channel_numbers, is_none, are_several, wrong_capacity, first_at, or_else, instances_fault, channels_fault, IsNetwork}
 use Rattle.std.specs.Option.{option_map_or}
-use Rattle.std.proofs.lemmas.List.{get_or_past}
-use Rattle.std.proofs.lemmas.List.Sums.{fails_before_first}
 use Rattle.std.proofs.lemmas.List.Folds.{list_any_at}
-use Rattle.std.proofs.lemmas.List.FromFn.{get_or-map-range_with_len, length-map-range_with_len}
-use Rattle.std.proofs.lemmas.Bool.{cases_lt, false≢true, false_from_ne_true, ltb-false, leb-false, eqb-true, eqb-false, or_parts, and_parts, not-false, both_ways}
-use Rattle.kpn_limits.specs.declared.TheConstants.{MAX_PROCESSES, MAX_CHANNELS, MAX_CAPACITY}
-use Rattle.kpn_lang.specs.Parts.{Parts, IsProgram}
-use Rattle.kpn_net.specs.declared.fault.NetFault.{NetFault}
-use Rattle.kpn_net.specs.declared.fault.NetFault.TheVariants.{NoSuchProgram, PortCount, NoSuchChannel, NoWriter, TwoWriters, NoReader, TwoReaders, Capacity}
 use Rattle.kpn_net.specs.declared.tables.ChannelSpec.{ChannelSpec}
 use Rattle.kpn_net.specs.declared.tables.ChannelSpec.TheVariants as channel
-use Rattle.kpn_net.specs.declared.tables.Instance.{Instance}
 use Rattle.kpn_net.specs.declared.tables.End.{End}
-use Rattle.kpn_net.specs.declared.tables.End.TheVariants.{Process, Source, Sink}
-use Rattle.kpn_net.specs.declared.tables.Growth.{Growth}
 use Rattle.kpn_net.specs.declared.tables.Growth.TheVariants.{One, Double}
-use Rattle.kpn_net.specs.Tables.{Tables, program_at, instance_at, program_of, channel_at, capacity, is_source, is_sink, grown_capacity, larger_capacity, ends_among, ends_from, writers_of, readers_of, writer_of, reader_of}
-use Rattle.kpn_net.specs.Faults.{has_too_many, lacks_its_program, matches_program, differs_from_its_program, lacks_a_channel, exceeds, has_no_such_capacity, channel_numbers, is_none, are_several, wrong_capacity, first_at, or_else, instances_fault, channels_fault, IsNetwork}
 
 -- ---- searches that find nothing
 

@@ -1,14 +1,6 @@
 -- What a process can say and what it comes to: both depend only on its own in channels. Of two things that it can say,
 -- one begins the other.
-use Rattle.std.proofs.Common.{◌≡◌, ◌⊎◌, ℕ, ◌+◌, List, [], ◌∷◌, map, refl, sym, ap, ◌∙◌, subst, arith}
-use Rattle.std.specs.Prelude.{Contains}
-use Rattle.kpn_lang.specs.declared.talk.Said.{Said}
-use Rattle.kpn_lang.specs.declared.talk.Ending.{Ending}
-use Rattle.kpn_lang.specs.Prefix.{IsPrefix}
-use Rattle.kpn_lang.specs.Alone.{alone}
-use Rattle.kpn_lang.proofs.Prefixes.{IsPrefix-refl, IsPrefix-trans, prefixes_of_one}
-use Rattle.kpn_net.specs.Tables.{Tables, instance_at, program_of}
-use Rattle.kpn_net.specs.Process.{Family, IsFamilyPrefix, AgreeOnIns, at_channel, ends_at_channel, ran_on, talk_on, ProcessCanSay, ProcessComesTo}
+use Rattle.kpn_net.proofs.Common.{◌≡◌, ◌⊎◌, ℕ, ◌+◌, List, [], ◌∷◌, map, refl, sym, ap, ◌∙◌, subst, arith, Contains, Said, Ending, IsPrefix, alone, IsPrefix-refl, IsPrefix-trans, prefixes_of_one, Tables, instance_at, program_of, Family, IsFamilyPrefix, AgreeOnIns, at_channel, ends_at_channel, ran_on, talk_on, ProcessCanSay, ProcessComesTo}
 use Rattle.kpn_net.proofs.Monotone.{talk_on-grows}
 use Rattle.kpn_net.proofs.Cycles.{Contains-first, Contains-later}
 

@@ -1,9 +1,5 @@
 -- Lists that are compared item by item.
-use Rattle.std.proofs.Common.{◌≡◌, ◌↔◌, IsTrue, ℕ, ◌<◌, Bool, List, length, sym, ◌∙◌}
-use Rattle.std.specs.Prelude.{MatchBool}
-use Rattle.std.specs.List.{zip, AllWithin, HoldsAt}
-use Rattle.std.proofs.lemmas.List.{map-id}
-use Rattle.kpn_lang.proofs.Pairs.{Alike, Differ, same_by_pairs}
+use Rattle.kpn_net.proofs.Common.{◌≡◌, ◌↔◌, IsTrue, ℕ, ◌<◌, Bool, List, length, sym, ◌∙◌, MatchBool, zip, AllWithin, HoldsAt, map-id, Alike, Differ, same_by_pairs}
 
 pub same_pairs : {X : Type 0} (xs ys : List X) (r : Bool) → length xs ≡ length ys
     → MatchBool r (AllWithin (Alike (λ (x : X). x)) (zip xs ys) 0 (length (zip xs ys)))

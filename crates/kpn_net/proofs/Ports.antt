@@ -1,21 +1,11 @@
 -- A process names only its own ports: what it says is at one of its in ports or out ports.
-use Rattle.std.proofs.Common.{◌≡◌, ℕ, zero, suc, ◌+◌, ◌<◌, ℤ, cond, Bool, true, false, List, [], ◌∷◌, length, Result, Ok, Err, set, refl}
-use Rattle.std.specs.Prelude.{unsigned_abs}
-use Rattle.std.specs.List.{list_all}
-use Rattle.std.proofs.lemmas.Bool.{ltb-true, and_parts}
+use Rattle.kpn_net.proofs.Common.{◌≡◌, ℕ, zero, suc, ◌+◌, ◌<◌, ℤ, cond, Bool, true, false, List, [], ◌∷◌, length, Result, Ok, Err, set, refl, unsigned_abs, list_all, ltb-true, and_parts, Said, Got, Put, Ending, Parts, IsProgram, names_ports_below, each_statement, Ran, Next, Lists, list_at, ends, says, with_value, with_item, choose, turns, run, alone, start_of, kept}
 use Rattle.kpn_lang.specs.declared.value.Fault.{Fault}
-use Rattle.kpn_lang.specs.declared.talk.Said.{Said}
-use Rattle.kpn_lang.specs.declared.talk.Said.TheVariants.{Got, Put}
-use Rattle.kpn_lang.specs.declared.talk.Ending.{Ending}
 use Rattle.kpn_lang.specs.declared.talk.Ending.TheVariants.{Done, Faulted, Starved, Cut}
 use Rattle.kpn_lang.specs.Syntax.{Term, Statement}
 use Rattle.kpn_lang.specs.Syntax as syntax
 use Rattle.kpn_lang.specs.Value.{value, is_zero, index_in, ◌>>=◌}
 use Rattle.kpn_lang.specs.Tree.{Tree, End, Assign, Read, Write, If, While, Set, tree_over, tree_to, tree_of, block_at}
-use Rattle.kpn_lang.specs.Parts.{Parts, IsProgram, names_ports_below, each_statement}
-use Rattle.kpn_lang.specs.Run.{Ran, Next, Lists, list_at, ends, says, with_value, with_item, choose, turns, run}
-use Rattle.kpn_lang.specs.Alone.{alone, start_of}
-use Rattle.kpn_lang.proofs.Programs.{kept}
 
 -- ---- the ports of a tree, of what is said and of an end
 

@@ -1,16 +1,6 @@
 -- The channels at the ports of a process. Each is at one port, and from the ports follows which channels the process
 -- reads and writes.
-use Rattle.std.proofs.Common.{◌≡◌, ◌↔◌, ℕ, zero, suc, ◌+◌, ◌<◌, ◌≤◌, cond, Bool, true, false, eqb, eq-eqb, add-zero, List, [], ◌∷◌, length, get_or, refl, sym, ap, ◌∙◌, subst, inl, inr, arith, length-append}
-use Rattle.std.specs.Prelude.{Contains}
-use Rattle.std.proofs.lemmas.List.{get_or_default, get_or_past}
-use Rattle.std.proofs.lemmas.Bool.{cases_lt}
-use Rattle.kpn_limits.specs.declared.TheConstants.{MAX_PORTS}
-use Rattle.kpn_lang.proofs.Programs.{limits}
-use Rattle.kpn_net.specs.declared.tables.Instance.{Instance}
-use Rattle.kpn_net.specs.declared.tables.End.TheVariants.{Process, Source, Sink}
-use Rattle.kpn_net.specs.Tables.{Tables, instance_at, program_of, channel_at, is_source, is_sink, ends_among, ends_from, writer_of, reader_of}
-use Rattle.kpn_net.specs.Faults.{IsNetwork}
-use Rattle.kpn_net.specs.Waits.{AreDistinct}
+use Rattle.kpn_net.proofs.Common.{◌≡◌, ◌↔◌, ℕ, zero, suc, ◌+◌, ◌<◌, ◌≤◌, cond, Bool, true, false, eqb, eq-eqb, add-zero, List, [], ◌∷◌, length, get_or, refl, sym, ap, ◌∙◌, subst, inl, inr, arith, length-append, Contains, get_or_default, get_or_past, cases_lt, MAX_PORTS, limits, Instance, Process, Source, Sink, Tables, instance_at, program_of, channel_at, is_source, is_sink, ends_among, ends_from, writer_of, reader_of, IsNetwork, AreDistinct}
 use Rattle.kpn_net.proofs.Networks.{StandsAt, IsInstance-of, IsProgram-of, one_writer, one_reader, writer_of-Writes, reader_of-Reads, Writes-writer_of, Reads-reader_of, Writes-below, Reads-below}
 use Rattle.kpn_net.proofs.Cycles.{Contains-none, Contains-first, Contains-later, Contains-cases}
 

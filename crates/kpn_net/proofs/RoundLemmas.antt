@@ -1,22 +1,7 @@
 -- A round of Kahn's iteration, put together from what each process puts.
-use Rattle.std.proofs.Common.{◌≡◌, ℕ, zero, suc, ◌+◌, ◌<◌, ℤ, cond, Bool, true, false, eqb, eq-eqb, List, [], ◌∷◌, ◌++◌, length, get_or, set, map, take, count_by, Option, Some, refl, sym, ap, ◌∙◌, subst, inl, inr, arith, append_assoc, get_or-set_same, get_or-set_other, length-set, add-one}
-use Rattle.std.specs.List.{range_with_len}
-use Rattle.std.proofs.lemmas.List.{append-nil, take_more, get_or_default}
-use Rattle.std.proofs.lemmas.List.FromFn.{fill_by_all, get_or-map-range_with_len, length-map-range_with_len, map-range_with_len_more}
-use Rattle.std.proofs.lemmas.List.Sums.{count_by_more_yes, sum_by-take-le}
+use Rattle.kpn_net.proofs.Common.{◌≡◌, ℕ, zero, suc, ◌+◌, ◌<◌, ℤ, cond, Bool, true, false, eqb, eq-eqb, List, [], ◌∷◌, ◌++◌, length, get_or, set, map, take, count_by, Option, Some, refl, sym, ap, ◌∙◌, subst, inl, inr, arith, append_assoc, get_or-set_same, get_or-set_other, length-set, add-one, range_with_len, append-nil, take_more, get_or_default, fill_by_all, get_or-map-range_with_len, length-map-range_with_len, map-range_with_len_more, count_by_more_yes, sum_by-take-le, cases_eq, ne_eqb, Said, Got, Put, Parts, alone, put_at, Instance, Process, Source, Sink, Tables, instance_at, program_of, channel_at, is_source, writer_of, IsNetwork, Family, at_channel, ran_on, out_of, written_by, first_round, next_round, given_by, put_on, NamesOutsBelow, lists_of}
 use Rattle.std.proofs.lemmas.Option.{slice_get-get_or}
-use Rattle.std.proofs.lemmas.Bool.{cases_eq, ne_eqb}
-use Rattle.kpn_lang.specs.declared.talk.Said.{Said}
-use Rattle.kpn_lang.specs.declared.talk.Said.TheVariants.{Got, Put}
-use Rattle.kpn_lang.specs.Parts.{Parts}
-use Rattle.kpn_lang.specs.Alone.{alone, put_at}
-use Rattle.kpn_net.specs.declared.tables.Instance.{Instance}
 use Rattle.kpn_net.specs.declared.tables.End.{End}
-use Rattle.kpn_net.specs.declared.tables.End.TheVariants.{Process, Source, Sink}
-use Rattle.kpn_net.specs.Tables.{Tables, instance_at, program_of, channel_at, is_source, writer_of}
-use Rattle.kpn_net.specs.Faults.{IsNetwork}
-use Rattle.kpn_net.specs.Process.{Family, at_channel, ran_on, out_of}
-use Rattle.kpn_net.specs.Iteration.{written_by, first_round, next_round, given_by, put_on, NamesOutsBelow, lists_of}
 use Rattle.kpn_net.proofs.Networks.{AreThere, IsInstance-of, IsProgram-of, StandsAt, Writes, writer_of-Writes, Writes-writer_of, writer_of-source}
 use Rattle.kpn_net.proofs.Ports.{SaidNames, TalkNames, alone-names}
 

@@ -1,21 +1,8 @@
 -- What the code keeps of the ends of the channels while it goes through the ports.
-use Rattle.std.proofs.Common.{◌≡◌, ℕ, zero, suc, ◌+◌, ◌<◌, ◌≤◌, cond, Bool, true, false, not, eqb, ltb, List, [], ◌∷◌, ◌++◌, length, get_or, set, map, take, replicate, Option, Some, None, refl, sym, ap, ◌∙◌, subst, inl, inr, arith, eq-eqb, lt-ltb, le-ltb, get_or-set_same, get_or-set_other, append_assoc, length-set, add-zero}
-use Rattle.std.specs.List.{range_with_len, position, position_or_len}
-use Rattle.std.proofs.lemmas.List.{append-nil, take_more, take_all, get_or-take, get_or-replicate, length-replicate, length-take, get_or_default, get_or-map, length-map}
-use Rattle.std.proofs.lemmas.List.FromFn.{fill_by_all, get_or-map-range_with_len, length-map-range_with_len}
-use Rattle.std.proofs.lemmas.Bool.{cases_eq, cases_lt, ne_eqb}
-use Rattle.std.proofs.lemmas.Bool.Decides.{nat_tests}
-use Rattle.kpn_lang.specs.Parts.{Parts, IsProgram}
-use Rattle.kpn_net.specs.declared.fault.NetFault.{NetFault}
-use Rattle.kpn_net.specs.declared.fault.NetFault.TheVariants.{NoWriter, TwoWriters, NoReader, TwoReaders, Capacity}
-use Rattle.kpn_net.specs.declared.tables.Instance.{Instance}
+use Rattle.kpn_net.proofs.Common.{◌≡◌, ℕ, zero, suc, ◌+◌, ◌<◌, ◌≤◌, cond, Bool, true, false, not, eqb, ltb, List, [], ◌∷◌, ◌++◌, length, get_or, set, map, take, replicate, Option, Some, None, refl, sym, ap, ◌∙◌, subst, inl, inr, arith, eq-eqb, lt-ltb, le-ltb, get_or-set_same, get_or-set_other, append_assoc, length-set, add-zero, range_with_len, position, position_or_len, append-nil, take_more, take_all, get_or-take, get_or-replicate, length-replicate, length-take, get_or_default, get_or-map, length-map, fill_by_all, get_or-map-range_with_len, length-map-range_with_len, cases_eq, cases_lt, ne_eqb, nat_tests, Parts, IsProgram, NetFault, NoWriter, TwoWriters, NoReader, TwoReaders, Capacity, Instance, Process, Source, Sink, Tables, ends_among, ends_from, channel_at, is_source, is_sink, writers_of, readers_of, is_none, are_several, channel_numbers, wrong_capacity, first_at, channels_fault, side_of, side_with, is_nobody, is_several, end_or, Keeps}
 use Rattle.kpn_net.specs.declared.tables.End.{End}
-use Rattle.kpn_net.specs.declared.tables.End.TheVariants.{Process, Source, Sink}
 use Rattle.kpn_net.specs.declared.network.sides.Side.{Side}
 use Rattle.kpn_net.specs.declared.network.sides.Side.TheVariants.{Nobody, One}
-use Rattle.kpn_net.specs.Tables.{Tables, ends_among, ends_from, channel_at, is_source, is_sink, writers_of, readers_of}
-use Rattle.kpn_net.specs.Faults.{is_none, are_several, channel_numbers, wrong_capacity, first_at, channels_fault}
-use Rattle.kpn_net.specs.Sides.{side_of, side_with, is_nobody, is_several, end_or, Keeps}
 use Rattle.kpn_net.proofs.Networks.{fails_at}
 
 pub joined-side_of : (ends : List End) (end : End) → side_with (side_of ends) end ≡ side_of (ends ++ end ∷ [])

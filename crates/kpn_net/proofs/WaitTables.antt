@@ -1,11 +1,6 @@
 -- Wait tables: all wait for nobody, and one process has another wait.
-use Rattle.std.proofs.Common.{ℕ, ◌<◌, List, length, get_or, set, replicate, sym, ap, ◌∙◌, subst, inl, inr, arith, length-set, get_or-set_same, get_or-set_other}
-use Rattle.std.proofs.lemmas.List.{length-replicate, get_or-replicate}
-use Rattle.std.proofs.lemmas.Bool.{cases_eq}
-use Rattle.kpn_net.specs.declared.wait.Wait.{Wait}
+use Rattle.kpn_net.proofs.Common.{ℕ, ◌<◌, List, length, get_or, set, replicate, sym, ap, ◌∙◌, subst, inl, inr, arith, length-set, get_or-set_same, get_or-set_other, length-replicate, get_or-replicate, cases_eq, Wait, Tables, IsOwnWait, AreWaits}
 use Rattle.kpn_net.specs.declared.wait.Wait.TheVariants.{Nobody}
-use Rattle.kpn_net.specs.Tables.{Tables}
-use Rattle.kpn_net.specs.Waits.{IsOwnWait, AreWaits}
 
 pub waits-nobody : (t : Tables) → AreWaits t (replicate (length t.instances) Nobody)
 waits-nobody t =

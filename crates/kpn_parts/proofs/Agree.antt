@@ -1,26 +1,10 @@
 -- Joined runs that are fed from the same lists agree with each other and with every run in one piece, whatever the
 -- cuts.
-use Rattle.std.proofs.Common.{◌≡◌, ℕ, ◌≤◌, ◌⊎◌, max, List, length, take, sym, ◌∙◌, inl, inr, arith}
-use Rattle.kpn_lang.specs.Prefix.{IsPrefix}
-use Rattle.kpn_lang.proofs.Prefixes.{IsPrefix-trans, IsPrefix-antisym, prefixes_of_one, length_of_prefix}
-use Rattle.kpn_net.specs.Tables.{Tables}
-use Rattle.kpn_net.specs.Faults.{IsNetwork}
-use Rattle.kpn_net.specs.Process.{Family, IsFamilyPrefix}
-use Rattle.kpn_net.specs.Iteration.{iterate, IsPrefixOnSources, AgreeOnSources, IsLeast}
-use Rattle.kpn_net.proofs.Monotone.{iterate-grows}
-use Rattle.kpn_history.specs.declared.event.Event.{Event}
-use Rattle.kpn_history.specs.Channels.{written_on, read_on, fed}
-use Rattle.kpn_history.specs.Legal.{Legal}
-use Rattle.kpn_history.specs.Ends.{IsQuiet}
+use Rattle.kpn_parts.proofs.Common.{◌≡◌, ℕ, ◌≤◌, ◌⊎◌, max, List, length, take, sym, ◌∙◌, inl, inr, arith, IsPrefix, IsPrefix-trans, IsPrefix-antisym, prefixes_of_one, length_of_prefix, Tables, IsNetwork, Family, IsFamilyPrefix, iterate, IsPrefixOnSources, AgreeOnSources, IsLeast, iterate-grows, Event, written_on, read_on, fed, Legal, IsQuiet, reads_begin_writes, IsBelowIterate, PartEvent, Part, IsCut, whole_history, IsJoined}
 use Rattle.kpn_history.specs.Complete.{IsComplete, IsFedFrom}
-use Rattle.kpn_history.proofs.Journals.{reads_begin_writes}
-use Rattle.kpn_history.proofs.Below.{IsBelowIterate}
 use Rattle.kpn_history.proofs.Kahn as kahn
 use Rattle.kpn_history.proofs.Kahn.{take-prefix}
 use Rattle.kpn_history.proofs.Complete as one
-use Rattle.kpn_parts.specs.declared.order.PartEvent.{PartEvent}
-use Rattle.kpn_parts.specs.Cut.{Part, IsCut}
-use Rattle.kpn_parts.specs.Joined.{whole_history, IsJoined}
 use Rattle.kpn_parts.proofs.Whole.{is_spoken}
 use Rattle.kpn_parts.proofs.Below.{below_one_iterate}
 use Rattle.kpn_parts.proofs.Ended.{says_all}

@@ -1,21 +1,5 @@
 -- In a joined run all journals of the whole are below one iterate of Kahn's iteration for what was fed.
-use Rattle.std.proofs.Common.{◌≡◌, ℕ, ◌<◌, Bool, true, false, cond, List, [], ◌∷◌, ◌++◌, length, refl, sym, ap, ◌∙◌, subst}
-use Rattle.std.specs.List.{flat_map}
-use Rattle.std.proofs.lemmas.List.{append-nil}
-use Rattle.std.proofs.lemmas.List.Concat.{flat_map-append}
-use Rattle.kpn_lang.specs.Prefix.{IsPrefix}
-use Rattle.kpn_lang.proofs.Prefixes.{IsPrefix-trans, IsPrefix-append}
-use Rattle.kpn_net.specs.Tables.{Tables}
-use Rattle.kpn_net.specs.Faults.{IsNetwork}
-use Rattle.kpn_net.specs.Process.{Family}
-use Rattle.kpn_net.specs.Iteration.{iterate, IsPrefixOnSources, IsBelowLeast}
-use Rattle.kpn_history.specs.declared.event.Event.{Event}
-use Rattle.kpn_history.specs.Channels.{written_in, written_on, fed}
-use Rattle.kpn_history.proofs.Journals.{IsSpoken}
-use Rattle.kpn_history.proofs.Below.{IsBelowIterate, one_more, fed_on_sources}
-use Rattle.kpn_parts.specs.declared.order.PartEvent.{PartEvent}
-use Rattle.kpn_parts.specs.Cut.{Part, whole_channel, part_at, IsCut}
-use Rattle.kpn_parts.specs.Joined.{events_of_part, in_whole, is_of_whole, whole_event, whole_history, IsJoined}
+use Rattle.kpn_parts.proofs.Common.{◌≡◌, ℕ, ◌<◌, Bool, true, false, cond, List, [], ◌∷◌, ◌++◌, length, refl, sym, ap, ◌∙◌, subst, flat_map, append-nil, flat_map-append, IsPrefix, IsPrefix-trans, IsPrefix-append, Tables, IsNetwork, Family, iterate, IsPrefixOnSources, IsBelowLeast, Event, written_in, written_on, fed, IsSpoken, IsBelowIterate, one_more, fed_on_sources, PartEvent, Part, whole_channel, part_at, IsCut, events_of_part, in_whole, is_of_whole, whole_event, whole_history, IsJoined}
 use Rattle.kpn_parts.proofs.Orders.{whole_history-push, joined-prefix, owns_last, by_joined}
 use Rattle.kpn_parts.proofs.Whole.{own_in_whole, journal_begins, is_spoken}
 

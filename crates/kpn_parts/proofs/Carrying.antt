@@ -1,12 +1,5 @@
 -- What links carry, event by event.
-use Rattle.std.proofs.Common.{◌≡◌, ◌↔◌, ℕ, ◌+◌, ◌<◌, ◌≤◌, Bool, true, false, ℤ, List, [], ◌∷◌, ◌++◌, length, get_or, set, Option, Some, None, refl, sym, ap, ◌∙◌, subst, inl, inr, arith}
-use Rattle.std.proofs.lemmas.Bool.{cases_eq, both_ways}
-use Rattle.std.proofs.lemmas.List.{get_or_default, length-set, get_or-set_same, get_or-set_other}
-use Rattle.kpn_lang.proofs.Prefixes.{IsPrefix-refl, length_of_prefix}
-use Rattle.kpn_parts.specs.declared.order.PartEvent.{PartEvent}
-use Rattle.kpn_parts.specs.declared.link.PartLink.{PartLink}
-use Rattle.kpn_parts.specs.declared.joining.Carried.{Carried}
-use Rattle.kpn_parts.specs.Links.{put_on_link, fed_on, IsSentOn, AreSent, IsCarriedOn, IsCarried, AreCarried, CarryNothing, CarryMore, FedAtMost, MayCome, items_on, items_of, IsNext}
+use Rattle.kpn_parts.proofs.Common.{◌≡◌, ◌↔◌, ℕ, ◌+◌, ◌<◌, ◌≤◌, Bool, true, false, ℤ, List, [], ◌∷◌, ◌++◌, length, get_or, set, Option, Some, None, refl, sym, ap, ◌∙◌, subst, inl, inr, arith, cases_eq, both_ways, get_or_default, length-set, get_or-set_same, get_or-set_other, IsPrefix-refl, length_of_prefix, PartEvent, PartLink, Carried, put_on_link, fed_on, IsSentOn, AreSent, IsCarriedOn, IsCarried, AreCarried, CarryNothing, CarryMore, FedAtMost, MayCome, items_on, items_of, IsNext}
 use Rattle.kpn_parts.proofs.Sending.{sent_start, sent_next, next_if_sent}
 
 -- ---- one link and one event

@@ -1,13 +1,6 @@
 -- What is decided of a cut: parts whose channels differ, and processes that each have one home.
-use Rattle.std.proofs.Common.{◌≡◌, ◌≢◌, ℕ, ◌+◌, ◌<◌, ◌≤◌, ◌⊎◌, true, false, Bool, List, [], zero, suc, ◌∷◌, ◌++◌, length, get_or, set, replicate, refl, sym, ap, ◌∙◌, subst, inl, inr, arith, Option, Some, None, Result, Ok, Err, IfOk, IfSome}
-use Rattle.std.proofs.lemmas.Bool.{cases_eq, cases_lt, both_ways}
-use Rattle.std.proofs.lemmas.List.{get_or-set_same, get_or-set_other, get_or_default, get_or_past}
+use Rattle.kpn_parts.proofs.Common.{◌≡◌, ◌≢◌, ℕ, ◌+◌, ◌<◌, ◌≤◌, ◌⊎◌, true, false, Bool, List, [], zero, suc, ◌∷◌, ◌++◌, length, get_or, set, replicate, refl, sym, ap, ◌∙◌, subst, inl, inr, arith, Option, Some, None, Result, Ok, Err, IfOk, IfSome, cases_eq, cases_lt, both_ways, get_or-set_same, get_or-set_other, get_or_default, get_or_past, Tables, source_there, PartLink, Part, whole_process, whole_channel, empty_part, part_at, HasHome, IsPart, AreOnce, IsCutSource, EndsIn, HasLink, AreLinks}
 use Rattle.std.proofs.lemmas.List.Elements.{Contains-append_left, Contains-append_right}
-use Rattle.kpn_net.specs.Tables.{Tables}
-use Rattle.kpn_net.proofs.Networks.{source_there}
-use Rattle.kpn_parts.specs.declared.link.PartLink.{PartLink}
-use Rattle.kpn_parts.specs.Cut.{Part, whole_process, whole_channel, empty_part, part_at, HasHome, IsPart, AreOnce, IsCutSource}
-use Rattle.kpn_parts.specs.Links.{EndsIn, HasLink, AreLinks}
 
 -- the first channels of a part are different ones in the whole
 abbrev pub DifferBelow : Part → (n : ℕ) → Type 0

@@ -1,29 +1,6 @@
 -- A process that can say no more in its part can say no more in the whole.
-use Rattle.std.proofs.Common.{◌≡◌, ℕ, ◌<◌, true, false, Bool, cond, eqb, ◌||◌, List, [], ◌∷◌, ◌++◌, length, map, Option, Some, None, refl, sym, ap, ◌∙◌, subst, inl, inr}
-use Rattle.std.specs.List.{flat_map, filter, list_any, last_or}
-use Rattle.std.specs.Option.{option_map}
-use Rattle.std.proofs.lemmas.Bool.{cases_Bool, cases_lt, both_ways}
-use Rattle.kpn_lang.specs.Prefix.{IsPrefix}
-use Rattle.kpn_lang.proofs.Prefixes.{IsPrefix-refl, IsPrefix-trans, IsPrefix-same}
-use Rattle.kpn_net.specs.declared.tables.End.{End}
-use Rattle.kpn_net.specs.declared.tables.End.TheVariants.{Process, Source, Sink}
-use Rattle.kpn_net.specs.Tables.{Tables, instance_at, channel_at, is_sink, reader_of}
-use Rattle.kpn_net.specs.Faults.{IsNetwork}
-use Rattle.kpn_net.specs.Process.{Family, IsFamilyPrefix, AgreeOnIns, at_channel, talk_on}
-use Rattle.kpn_net.proofs.Monotone.{map-prefix}
-use Rattle.kpn_net.proofs.OwnIns.{ran_on-own_ins}
-use Rattle.kpn_net.proofs.Networks.{Reads, reader_of-Reads, Reads-reader_of, sink-reader_of, reader_of-sink, reader_is_no_source}
-use Rattle.kpn_history.specs.declared.event.Event.{Event}
+use Rattle.kpn_parts.proofs.Common.{◌≡◌, ℕ, ◌<◌, true, false, Bool, cond, eqb, ◌||◌, List, [], ◌∷◌, ◌++◌, length, map, Option, Some, None, refl, sym, ap, ◌∙◌, subst, inl, inr, flat_map, filter, list_any, last_or, option_map, cases_Bool, cases_lt, both_ways, IsPrefix, IsPrefix-refl, IsPrefix-trans, IsPrefix-same, End, Process, Source, Sink, Tables, instance_at, channel_at, is_sink, reader_of, IsNetwork, Family, IsFamilyPrefix, AgreeOnIns, at_channel, talk_on, map-prefix, ran_on-own_ins, Reads, reader_of-Reads, Reads-reader_of, sink-reader_of, reader_of-sink, reader_is_no_source, Event, is_of, talk_of, last_event, is_end_of, has_ended, read_on, Owns, read_on-outside, reads_if_contained, HasSaidAll, HasSaidAll-ended, IsStarved, IsStarved-last, SaysAll, PartEvent, Part, whole_process, whole_channel, part_at, IsCut, events_of_part, in_whole, counted, whole_history, AreLegal, IsJoined}
 use Rattle.kpn_history.specs.declared.event.Event.TheVariants.{Get, Put, WaitEmpty, WaitFull, Ended}
-use Rattle.kpn_history.specs.Talks.{is_of, talk_of, last_event, is_end_of, has_ended}
-use Rattle.kpn_history.specs.Channels.{read_on}
-use Rattle.kpn_history.proofs.Ownership.{Owns}
-use Rattle.kpn_history.proofs.Journals.{read_on-outside}
-use Rattle.kpn_history.proofs.Rests.{reads_if_contained}
-use Rattle.kpn_history.proofs.Above.{HasSaidAll, HasSaidAll-ended, IsStarved, IsStarved-last, SaysAll}
-use Rattle.kpn_parts.specs.declared.order.PartEvent.{PartEvent}
-use Rattle.kpn_parts.specs.Cut.{Part, whole_process, whole_channel, part_at, IsCut}
-use Rattle.kpn_parts.specs.Joined.{events_of_part, in_whole, counted, whole_history, AreLegal, IsJoined}
 use Rattle.kpn_parts.proofs.Renaming.{said_in_whole, seen_by, talk_same, reads_in_whole}
 use Rattle.kpn_parts.proofs.Ends.{part_of, by_reader}
 use Rattle.kpn_parts.proofs.Orders.{seen}

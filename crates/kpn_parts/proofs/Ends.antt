@@ -1,18 +1,10 @@
 -- The ends of a channel in parts and in the whole. What writes a channel in the whole is in one part, and so is what
 -- reads it.
-use Rattle.std.proofs.Common.{◌≡◌, ℕ, ◌<◌, true, false, List, [], length, refl, sym, ap, ◌∙◌, subst, inl, inr, arith}
+use Rattle.kpn_parts.proofs.Common.{◌≡◌, ℕ, ◌<◌, true, false, List, [], length, refl, sym, ap, ◌∙◌, subst, inl, inr, arith, both_ways, cases_lt, cases_Bool, get_or_past, End, Process, Source, Sink, Tables, channel_at, is_source, is_sink, writer_of, reader_of, IsNetwork, Reads, Writes, Reads-below, Writes-below, reader_of-Reads, writer_of-Writes, Reads-reader_of, Writes-writer_of, source-writer_of, sink-reader_of, reader_of-sink, source_there, sink_there, writer_is_no_sink, reader_is_no_source, source_if_not_written, Part, whole_process, whole_channel, empty_part, part_at, IsPart, IsCut, IsCutSource}
 use Rattle.std.specs.Prelude.{All}
-use Rattle.std.proofs.lemmas.Bool.{both_ways, cases_lt, cases_Bool}
-use Rattle.std.proofs.lemmas.List.{get_or_past}
 use Rattle.kpn_lang.specs.Parts.{IsProgram}
-use Rattle.kpn_net.specs.declared.tables.End.{End}
-use Rattle.kpn_net.specs.declared.tables.End.TheVariants.{Process, Source, Sink}
 use Rattle.kpn_net.specs.declared.tables.ChannelSpec.{ChannelSpec}
 use Rattle.kpn_net.specs.declared.tables.ChannelSpec.TheVariants as channel
-use Rattle.kpn_net.specs.Tables.{Tables, channel_at, is_source, is_sink, writer_of, reader_of}
-use Rattle.kpn_net.specs.Faults.{IsNetwork}
-use Rattle.kpn_net.proofs.Networks.{Reads, Writes, Reads-below, Writes-below, reader_of-Reads, writer_of-Writes, Reads-reader_of, Writes-writer_of, source-writer_of, sink-reader_of, reader_of-sink, source_there, sink_there, writer_is_no_sink, reader_is_no_source, source_if_not_written}
-use Rattle.kpn_parts.specs.Cut.{Part, whole_process, whole_channel, empty_part, part_at, IsPart, IsCut, IsCutSource}
 use Rattle.kpn_parts.proofs.Renaming.{reads_in_whole, writes_in_whole, reads_back, writes_back}
 
 -- no channel is a source and a sink

@@ -1,18 +1,8 @@
 -- Each channel of the whole has a home, and a search over all channels of all parts finds it.
-use Rattle.std.proofs.Common.{◌≡◌, ℕ, ◌+◌, ◌<◌, ◌≤◌, true, false, List, [], ◌∷◌, ◌++◌, length, get_or, refl, sym, ap, ◌∙◌, subst, inl, inr, arith}
-use Rattle.std.proofs.lemmas.Bool.{cases_eq, cases_lt, both_ways}
-use Rattle.std.proofs.lemmas.List.{get_or_past}
+use Rattle.kpn_parts.proofs.Common.{◌≡◌, ℕ, ◌+◌, ◌<◌, ◌≤◌, true, false, List, [], ◌∷◌, ◌++◌, length, get_or, refl, sym, ap, ◌∙◌, subst, inl, inr, arith, cases_eq, cases_lt, both_ways, get_or_past, Tables, channel_at, is_source, IsNetwork, End, Process, Source, Sink, writer_of, reader_of, Writes, Reads, Reads-below, Writes-below, Writes-writer_of, Reads-reader_of, source-writer_of, sink-reader_of, reader_is_no_source, writer_is_no_sink, Part, empty_part, part_at, IsCut, IsHome}
 use Rattle.std.proofs.Math.ListN.{get_or-append}
 use Rattle.std.proofs.Math.Seq.{get_or-append_seam}
-use Rattle.kpn_net.specs.Tables.{Tables, channel_at, is_source}
-use Rattle.kpn_net.specs.Faults.{IsNetwork}
-use Rattle.kpn_net.specs.declared.tables.End.{End}
-use Rattle.kpn_net.specs.declared.tables.End.TheVariants.{Process, Source, Sink}
-use Rattle.kpn_net.specs.Tables.{writer_of, reader_of}
-use Rattle.kpn_net.proofs.Networks.{Writes, Reads, Reads-below, Writes-below, Writes-writer_of, Reads-reader_of, source-writer_of, sink-reader_of, reader_is_no_source, writer_is_no_sink}
 use Rattle.kpn_parts.specs.declared.link.ChannelHome.{ChannelHome}
-use Rattle.kpn_parts.specs.Cut.{Part, empty_part, part_at, IsCut}
-use Rattle.kpn_parts.specs.Homes.{IsHome}
 use Rattle.kpn_parts.proofs.Cuts.{IsBefore, before_next, nothing_before}
 use Rattle.kpn_parts.proofs.Renaming.{reads_back, writes_back}
 use Rattle.kpn_parts.proofs.Ends.{part_of, source_or_sink, no_cut_source}

@@ -1,3 +1,4 @@
+pub mod Common
 pub mod Renaming
 pub mod Ends
 pub mod Orders

@@ -1,18 +1,5 @@
 -- If what each part was fed on the links of a cut begins what was put there, at each moment, the run is joined.
-use Rattle.std.proofs.Common.{ℕ, List, sym, subst}
-use Rattle.kpn_lang.specs.Prefix.{IsPrefix}
-use Rattle.kpn_lang.proofs.Prefixes.{IsPrefix-trans, IsPrefix-same, rest_of_prefix}
-use Rattle.kpn_net.specs.Tables.{Tables}
-use Rattle.kpn_net.specs.Faults.{IsNetwork}
-use Rattle.kpn_net.proofs.Networks.{sink_there}
-use Rattle.kpn_history.specs.declared.event.Event.{Event}
-use Rattle.kpn_history.specs.Legal.{Legal}
-use Rattle.kpn_history.specs.Channels.{written_on}
-use Rattle.kpn_parts.specs.declared.order.PartEvent.{PartEvent}
-use Rattle.kpn_parts.specs.declared.link.PartLink.{PartLink}
-use Rattle.kpn_parts.specs.Cut.{Part, whole_channel, part_at, IsCut}
-use Rattle.kpn_parts.specs.Joined.{events_of_part, whole_history, IsSent, AreLegal, IsJoined}
-use Rattle.kpn_parts.specs.Links.{put_on_link, fed_on, IsSentOn, AreSent, HasLink, AreLinks, history_at, IsJoinOf}
+use Rattle.kpn_parts.proofs.Common.{ℕ, List, sym, subst, IsPrefix, IsPrefix-trans, IsPrefix-same, rest_of_prefix, Tables, IsNetwork, sink_there, Event, Legal, written_on, PartEvent, PartLink, Part, whole_channel, part_at, IsCut, events_of_part, whole_history, IsSent, AreLegal, IsJoined, put_on_link, fed_on, IsSentOn, AreSent, HasLink, AreLinks, history_at, IsJoinOf}
 use Rattle.kpn_parts.proofs.Ends.{source_or_sink}
 use Rattle.kpn_parts.proofs.Orders.{legal-prefix}
 use Rattle.kpn_parts.proofs.Whole.{journal_same}

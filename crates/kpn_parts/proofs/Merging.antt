@@ -1,15 +1,5 @@
 -- An order that is made of the beginnings of histories, event by event.
-use Rattle.std.proofs.Common.{◌≡◌, ◌↔◌, Bool, true, false, ℕ, zero, suc, ◌+◌, ◌<◌, ◌≤◌, List, [], ◌∷◌, ◌++◌, length, take, get_or, set, replicate, refl, sym, ap, ◌∙◌, subst, inl, inr, arith}
-use Rattle.std.proofs.lemmas.Bool.{cases_eq, cases_lt, both_ways}
-use Rattle.std.proofs.lemmas.List.{append-nil, take_more, get_or_default, get_or_past, take_all, length-set, length-replicate, get_or-set_same, get_or-set_other}
-use Rattle.kpn_lang.specs.Prefix.{IsPrefix}
-use Rattle.kpn_lang.proofs.Prefixes.{IsPrefix-refl, IsPrefix-trans, IsPrefix-append, length_of_prefix, same_from_prefix}
-use Rattle.kpn_history.specs.declared.event.Event.{Event}
-use Rattle.kpn_parts.specs.declared.order.PartEvent.{PartEvent}
-use Rattle.kpn_parts.specs.Joined.{events_of_part}
-use Rattle.kpn_parts.specs.declared.link.PartLink.{PartLink}
-use Rattle.kpn_parts.specs.declared.joining.Carried.{Carried}
-use Rattle.kpn_parts.specs.Links.{IsJoinOf, history_at, AreCarried, CarryNothing, CarryMore, MayCome, SoFar, StandsStill, IsStuck, UsesAll, ComesInNone}
+use Rattle.kpn_parts.proofs.Common.{◌≡◌, ◌↔◌, Bool, true, false, ℕ, zero, suc, ◌+◌, ◌<◌, ◌≤◌, List, [], ◌∷◌, ◌++◌, length, take, get_or, set, replicate, refl, sym, ap, ◌∙◌, subst, inl, inr, arith, cases_eq, cases_lt, both_ways, append-nil, take_more, get_or_default, get_or_past, take_all, length-set, length-replicate, get_or-set_same, get_or-set_other, IsPrefix, IsPrefix-refl, IsPrefix-trans, IsPrefix-append, length_of_prefix, same_from_prefix, Event, PartEvent, events_of_part, PartLink, Carried, IsJoinOf, history_at, AreCarried, CarryNothing, CarryMore, MayCome, SoFar, StandsStill, IsStuck, UsesAll, ComesInNone}
 use Rattle.kpn_parts.proofs.Carrying.{carried_start, carried_next, carried_sent}
 use Rattle.kpn_parts.proofs.Stuck.{none_behind}
 use Rattle.kpn_parts.proofs.Orders.{event_of-own, event_of-other, events_of-push}

@@ -1,21 +1,6 @@
 -- Joined runs event by event: beginnings of them are joined runs, and each event belongs to whatever made it.
-use Rattle.std.proofs.Common.{◌≡◌, ℕ, cond, eq-eqb, List, [], ◌∷◌, ◌++◌, refl, sym, ap, ◌∙◌, subst, inl, inr, append_assoc}
-use Rattle.std.specs.List.{flat_map}
-use Rattle.std.proofs.lemmas.Bool.{cases_eq, ne_eqb}
-use Rattle.std.proofs.lemmas.List.{append-nil}
-use Rattle.std.proofs.lemmas.List.Concat.{flat_map-append}
-use Rattle.kpn_lang.specs.Prefix.{IsPrefix}
-use Rattle.kpn_lang.proofs.Prefixes.{IsPrefix-trans, IsPrefix-append}
-use Rattle.kpn_net.specs.Tables.{Tables}
-use Rattle.kpn_net.specs.Faults.{IsNetwork}
-use Rattle.kpn_history.specs.declared.event.Event.{Event}
-use Rattle.kpn_history.specs.Legal.{Legal}
+use Rattle.kpn_parts.proofs.Common.{◌≡◌, ℕ, cond, eq-eqb, List, [], ◌∷◌, ◌++◌, refl, sym, ap, ◌∙◌, subst, inl, inr, append_assoc, flat_map, cases_eq, ne_eqb, append-nil, flat_map-append, IsPrefix, IsPrefix-trans, IsPrefix-append, Tables, IsNetwork, Event, Legal, Legal-prefix, Owns, Owns-last, PartEvent, Part, part_at, IsCut, event_of, events_of_part, whole_event, whole_history, AreLegal, IsJoined}
 use Rattle.kpn_history.proofs.Events.{flat_map-push}
-use Rattle.kpn_history.proofs.Legality.{Legal-prefix}
-use Rattle.kpn_history.proofs.Ownership.{Owns, Owns-last}
-use Rattle.kpn_parts.specs.declared.order.PartEvent.{PartEvent}
-use Rattle.kpn_parts.specs.Cut.{Part, part_at, IsCut}
-use Rattle.kpn_parts.specs.Joined.{event_of, events_of_part, whole_event, whole_history, AreLegal, IsJoined}
 use Rattle.kpn_parts.proofs.Ends.{part_of}
 
 -- ---- the events of one part

@@ -1,17 +1,11 @@
 -- A process of a part does what it does in the whole: it says the same, with the channels' numbers in the whole.
-use Rattle.std.proofs.Common.{◌≡◌, ℕ, ◌<◌, List, [], ◌∷◌, length, get_or, map, refl, sym, ap, ◌∙◌, subst}
-use Rattle.std.proofs.lemmas.List.{get_or-map, length-map}
+use Rattle.kpn_parts.proofs.Common.{◌≡◌, ℕ, ◌<◌, List, [], ◌∷◌, length, get_or, map, refl, sym, ap, ◌∙◌, subst, get_or-map, length-map, Said, Tables, instance_at, program_of, Family, at_channel, ran_on, talk_on, StandsAt, Reads, Writes, Part, whole_process, whole_channel, IsPart}
 use Rattle.std.proofs.lemmas.Simd.{map-map}
-use Rattle.kpn_lang.specs.declared.talk.Said.{Said}
 use Rattle.kpn_lang.specs.declared.talk.Said.TheVariants.{Got, Put}
 use Rattle.kpn_lang.specs.Alone.{alone}
 use Rattle.kpn_net.specs.declared.tables.Instance.{Instance}
-use Rattle.kpn_net.specs.Tables.{Tables, instance_at, program_of}
-use Rattle.kpn_net.specs.Process.{Family, at_channel, ran_on, talk_on}
-use Rattle.kpn_net.proofs.Networks.{StandsAt, Reads, Writes}
 use Rattle.kpn_net.proofs.Ports.{TalkNames}
 use Rattle.kpn_history.proofs.Running.{ran_on-names}
-use Rattle.kpn_parts.specs.Cut.{Part, whole_process, whole_channel, IsPart}
 
 -- what is said in a part, with the number of the channel in the whole
 abbrev pub said_in_whole : Part → Said → Said

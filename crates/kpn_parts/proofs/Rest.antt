@@ -1,24 +1,8 @@
 -- The whole at rest. If it is quiet, its journals contain what each process puts on them, so they are the least
 -- solution. It is quiet if each part is and nothing is on the way.
-use Rattle.std.proofs.Common.{◌≡◌, ◌⊎◌, ℕ, ◌<◌, true, cond, eqb, List, length, drop, sym, ap, ◌∙◌, subst, inl, inr}
-use Rattle.std.specs.Option.{option_map}
-use Rattle.std.proofs.lemmas.Bool.{cases_Bool, both_ways}
-use Rattle.kpn_lang.proofs.Prefixes.{IsPrefix-trans, IsPrefix-same}
+use Rattle.kpn_parts.proofs.Common.{◌≡◌, ◌⊎◌, ℕ, ◌<◌, true, cond, eqb, List, length, drop, sym, ap, ◌∙◌, subst, inl, inr, option_map, cases_Bool, both_ways, IsPrefix-trans, IsPrefix-same, Tables, channel_at, is_source, IsNetwork, Family, iterate, AgreeOnSources, IsLeast, closed_below-IsLeast, IsPrefixOnSources-refl, IsPrefixOnSources-agree, round-depends_on_sources, Reads-below, last_event, has_ended, written_on, read_on, fed, is_empty, WaitsOnEmpty, IsQuiet, empty_wait, IsStarved-last, IsClosed-quiet, PartEvent, Part, whole_process, whole_channel, part_at, IsCut, IsCutSource, events_of_part, in_whole, whole_history, IsJoined, HasAll, IsDelivered, AreQuiet, AreAtRest}
 use Rattle.kpn_net.specs.declared.wait.Wait.TheVariants.{Nobody, Empty}
-use Rattle.kpn_net.specs.Tables.{Tables, channel_at, is_source}
-use Rattle.kpn_net.specs.Faults.{IsNetwork}
-use Rattle.kpn_net.specs.Process.{Family}
-use Rattle.kpn_net.specs.Iteration.{iterate, AgreeOnSources, IsLeast}
-use Rattle.kpn_net.proofs.Monotone.{closed_below-IsLeast, IsPrefixOnSources-refl, IsPrefixOnSources-agree, round-depends_on_sources}
-use Rattle.kpn_net.proofs.Networks.{Reads-below}
-use Rattle.kpn_history.specs.Talks.{last_event, has_ended}
-use Rattle.kpn_history.specs.Channels.{written_on, read_on, fed, is_empty}
 use Rattle.kpn_history.specs.Waiting.{wait_of, wait_of_last}
-use Rattle.kpn_history.specs.Ends.{WaitsOnEmpty, IsQuiet}
-use Rattle.kpn_history.proofs.Above.{empty_wait, IsStarved-last, IsClosed-quiet}
-use Rattle.kpn_parts.specs.declared.order.PartEvent.{PartEvent}
-use Rattle.kpn_parts.specs.Cut.{Part, whole_process, whole_channel, part_at, IsCut, IsCutSource}
-use Rattle.kpn_parts.specs.Joined.{events_of_part, in_whole, whole_history, IsJoined, HasAll, IsDelivered, AreQuiet, AreAtRest}
 use Rattle.kpn_parts.proofs.Renaming.{reads_in_whole}
 use Rattle.kpn_parts.proofs.Ends.{part_of, by_reader}
 use Rattle.kpn_parts.proofs.Whole.{journal_same, read_same}

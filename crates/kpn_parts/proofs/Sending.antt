@@ -1,15 +1,5 @@
 -- What was put on a link and fed on it, event by event.
-use Rattle.std.specs.List.{flat_map}
-use Rattle.std.proofs.Common.{◌≡◌, ℕ, ◌+◌, ℤ, List, [], ◌∷◌, ◌++◌, length, slice_get, Option, Some, None, refl, sym, ap, ◌∙◌, subst, inl, inr, arith}
-use Rattle.std.proofs.lemmas.List.{append-nil}
-use Rattle.std.proofs.lemmas.List.Concat.{flat_map-append}
-use Rattle.kpn_lang.specs.Prefix.{IsPrefix}
-use Rattle.kpn_lang.proofs.Prefixes.{IsPrefix-refl, IsPrefix-trans, IsPrefix-append, prefix_of_push, nil_from_prefix}
-use Rattle.kpn_history.specs.Channels.{written_in, written_on}
-use Rattle.kpn_parts.specs.declared.order.PartEvent.{PartEvent}
-use Rattle.kpn_parts.specs.declared.link.PartLink.{PartLink}
-use Rattle.kpn_parts.specs.Joined.{event_of, events_of_part}
-use Rattle.kpn_parts.specs.Links.{put_on_link, fed_on, IsSentOn, IsCarriedOn, items_on, items_of, IsNext, FeedsNext}
+use Rattle.kpn_parts.proofs.Common.{flat_map, ◌≡◌, ℕ, ◌+◌, ℤ, List, [], ◌∷◌, ◌++◌, length, slice_get, Option, Some, None, refl, sym, ap, ◌∙◌, subst, inl, inr, arith, append-nil, flat_map-append, IsPrefix, IsPrefix-refl, IsPrefix-trans, IsPrefix-append, prefix_of_push, nil_from_prefix, written_in, written_on, PartEvent, PartLink, event_of, events_of_part, put_on_link, fed_on, IsSentOn, IsCarriedOn, items_on, items_of, IsNext, FeedsNext}
 use Rattle.kpn_parts.proofs.Orders.{events_of-push}
 
 -- ---- lists

@@ -1,17 +1,6 @@
 -- If no event of any part may come, and some are left, these come in no order: what may come stays possible, so another
 -- order would have got stuck as well.
-use Rattle.std.proofs.Common.{◌≡◌, ℕ, zero, suc, ◌+◌, ◌≤◌, min, List, [], ◌∷◌, ◌++◌, length, take, get_or, refl, sym, ap, ◌∙◌, subst, inl, inr, append_assoc, arith}
-use Rattle.std.proofs.lemmas.Bool.{cases_eq, cases_lt}
-use Rattle.std.proofs.lemmas.List.{append-nil, length-take}
-use Rattle.std.proofs.lemmas.List.Concat.{flat_map-append}
-use Rattle.kpn_lang.specs.Prefix.{IsPrefix}
-use Rattle.kpn_lang.proofs.Prefixes.{IsPrefix-refl, IsPrefix-trans, IsPrefix-same, IsPrefix-append, IsPrefix-from_rest, rest_of_prefix, length_of_prefix, same_from_prefix, prefixes_of_one, prefix_of_push}
-use Rattle.kpn_history.specs.declared.event.Event.{Event}
-use Rattle.kpn_history.specs.Channels.{written_in, written_on}
-use Rattle.kpn_parts.specs.declared.order.PartEvent.{PartEvent}
-use Rattle.kpn_parts.specs.declared.link.PartLink.{PartLink}
-use Rattle.kpn_parts.specs.Joined.{event_of, events_of_part}
-use Rattle.kpn_parts.specs.Links.{put_on_link, fed_on, IsSentOn, AreSent, history_at, MayCome, IsStuck}
+use Rattle.kpn_parts.proofs.Common.{◌≡◌, ℕ, zero, suc, ◌+◌, ◌≤◌, min, List, [], ◌∷◌, ◌++◌, length, take, get_or, refl, sym, ap, ◌∙◌, subst, inl, inr, append_assoc, arith, cases_eq, cases_lt, append-nil, length-take, flat_map-append, IsPrefix, IsPrefix-refl, IsPrefix-trans, IsPrefix-same, IsPrefix-append, IsPrefix-from_rest, rest_of_prefix, length_of_prefix, same_from_prefix, prefixes_of_one, prefix_of_push, Event, written_in, written_on, PartEvent, PartLink, event_of, events_of_part, put_on_link, fed_on, IsSentOn, AreSent, history_at, MayCome, IsStuck}
 use Rattle.kpn_parts.proofs.Orders.{event_of-own, event_of-other, events_of-push}
 
 -- ---- beginnings

@@ -1,30 +1,8 @@
 -- The history of the whole shows the journals, the reads and the talks that the parts have, so it has all that Kahn's
 -- theorem needs.
-use Rattle.std.proofs.Common.{◌≡◌, ℕ, ◌<◌, ◌≤◌, true, false, Bool, ℤ, cond, eqb, eq-eqb, List, [], ◌∷◌, ◌++◌, length, map, refl, sym, ap, ◌∙◌, subst, inl, inr, arith}
-use Rattle.std.specs.List.{flat_map}
-use Rattle.std.proofs.lemmas.Bool.{cases_Bool, cases_eq, cases_lt, ne_eqb, both_ways}
-use Rattle.std.proofs.lemmas.List.{append-nil, map-append}
-use Rattle.kpn_lang.specs.declared.talk.Said.{Said}
+use Rattle.kpn_parts.proofs.Common.{◌≡◌, ℕ, ◌<◌, ◌≤◌, true, false, Bool, ℤ, cond, eqb, eq-eqb, List, [], ◌∷◌, ◌++◌, length, map, refl, sym, ap, ◌∙◌, subst, inl, inr, arith, flat_map, cases_Bool, cases_eq, cases_lt, ne_eqb, both_ways, append-nil, map-append, Said, IsPrefix, IsPrefix-refl, IsPrefix-trans, IsPrefix-same, Tables, channel_at, is_source, is_sink, IsNetwork, IsFamilyPrefix, AgreeOnIns, ProcessCanSay, talk_on, map-prefix, CanSay-own_ins, Reads-below, Writes-below, source_there, sink_there, Event, said_in, talk_of, written_in, read_in, written_on, read_on, Legal-consistent, Owns, AreOwn, AreOwn-append, none_elsewhere, reads_begin_writes, IsSpoken, reads_if_contained, PartEvent, Part, whole_process, whole_channel, part_at, IsCut, IsCutSource, events_of_part, in_whole, is_of_whole, counted, whole_event, whole_history, IsSent, AreLegal, IsJoined}
 use Rattle.kpn_lang.specs.declared.talk.Said.TheVariants as said
-use Rattle.kpn_lang.specs.Prefix.{IsPrefix}
-use Rattle.kpn_lang.proofs.Prefixes.{IsPrefix-refl, IsPrefix-trans, IsPrefix-same}
-use Rattle.kpn_net.specs.Tables.{Tables, channel_at, is_source, is_sink}
-use Rattle.kpn_net.specs.Faults.{IsNetwork}
-use Rattle.kpn_net.specs.Process.{IsFamilyPrefix, AgreeOnIns, ProcessCanSay, talk_on}
-use Rattle.kpn_net.proofs.Monotone.{map-prefix}
-use Rattle.kpn_net.proofs.OwnIns.{CanSay-own_ins}
-use Rattle.kpn_net.proofs.Networks.{Reads-below, Writes-below, source_there, sink_there}
-use Rattle.kpn_history.specs.declared.event.Event.{Event}
 use Rattle.kpn_history.specs.declared.event.Event.TheVariants.{Get, Put, WaitEmpty, WaitFull, Ended, Feed, Close, Take, Leave, Grow}
-use Rattle.kpn_history.specs.Talks.{said_in, talk_of}
-use Rattle.kpn_history.specs.Channels.{written_in, read_in, written_on, read_on}
-use Rattle.kpn_history.proofs.Legality.{Legal-consistent}
-use Rattle.kpn_history.proofs.Ownership.{Owns, AreOwn, AreOwn-append}
-use Rattle.kpn_history.proofs.Journals.{none_elsewhere, reads_begin_writes, IsSpoken}
-use Rattle.kpn_history.proofs.Rests.{reads_if_contained}
-use Rattle.kpn_parts.specs.declared.order.PartEvent.{PartEvent}
-use Rattle.kpn_parts.specs.Cut.{Part, whole_process, whole_channel, part_at, IsCut, IsCutSource}
-use Rattle.kpn_parts.specs.Joined.{events_of_part, in_whole, is_of_whole, counted, whole_event, whole_history, IsSent, AreLegal, IsJoined}
 use Rattle.kpn_parts.proofs.Renaming.{said_in_whole, seen_by, talk_same, reads_in_whole, writes_in_whole}
 use Rattle.kpn_parts.proofs.Ends.{part_of, by_process, ReadsIn, by_reader, written_once, read_once, feeds_in, writes_in, takes_in, reads_in_there, no_cut_sink, is_read}
 use Rattle.kpn_parts.proofs.Orders.{whole_history-push, owns_last, by_legal, seen}

@@ -1,29 +1,20 @@
 -- What is known of a run is what a report promises, if the journals of its sources are their lists.
-use Rattle.std.proofs.Common.{◌≡◌, ℕ, ◌<◌, Bool, true, false, not, ℤ, List, [], length, get_or, Some, refl, sym, ap, subst, ◌∙◌, inl, inr}
-use Rattle.std.proofs.lemmas.Bool.{cases_Bool, both_ways, ne_eqb}
-use Rattle.kpn_net.specs.Tables.{Tables, channel_at, is_sink}
+use Rattle.kpn_pool.proofs.Common.{◌≡◌, ℕ, ◌<◌, Bool, true, false, not, ℤ, List, [], length, get_or, Some, refl, sym, ap, subst, ◌∙◌, inl, inr, cases_Bool, both_ways, ne_eqb, Tables, channel_at, is_sink, AgreeOnSources, given_by, list_of, Event, written_on, is_closed, is_leave_of, is_left, lives, Book, held_count, IsBook, AreFedBelow, AreSourcesClosedBelow, AreSinksKeptBelow}
 use Rattle.kpn_net.specs.Faults.{IsNetwork}
-use Rattle.kpn_net.specs.Iteration.{AgreeOnSources, given_by}
 use Rattle.kpn_net.proofs.Monotone.{IsPrefixOnSources-agree}
 use Rattle.kpn_net.proofs.Networks.{source_there, sink_there, reader_of-sink}
-use Rattle.kpn_net.proofs.RoundLemmas.{list_of}
-use Rattle.kpn_history.specs.declared.event.Event.{Event}
 use Rattle.kpn_history.specs.declared.event.Event.TheVariants.{Leave}
-use Rattle.kpn_history.specs.Channels.{written_on, is_closed, is_leave_of, is_left, lives}
 use Rattle.kpn_history.specs.Legal.{Legal}
 use Rattle.kpn_history.specs.OneMore.{IsOwn}
 use Rattle.kpn_history.proofs.AfterEvent.{is_left-next}
 use Rattle.kpn_history.proofs.Legality.{by_events}
 use Rattle.kpn_history.proofs.Ownership.{IsOwn-last}
-use Rattle.kpn_book.specs.Book.{Book, held_count}
-use Rattle.kpn_book.specs.Kept.{IsBook}
 use Rattle.kpn_book.specs.declared.outcome.Limits.{Limits}
 use Rattle.kpn_book.specs.declared.outcome.Outcome.{Outcome}
 use Rattle.kpn_book.specs.declared.report.Report.{Report}
 use Rattle.kpn_book.specs.Outcomes.{IsOutcome}
 use Rattle.kpn_book.specs.Reports.{events_of, IsWrittenFrom, AreSupplied, IsReport}
 use Rattle.kpn_book.proofs.Told.{journals_there, told_legal, told_view, IsReport-of}
-use Rattle.kpn_pool.specs.Fed.{AreFedBelow, AreSourcesClosedBelow, AreSinksKeptBelow}
 
 -- only sinks are left
 left_is_sink : (t : Tables) → IsNetwork t → (c : ℕ) → is_sink (channel_at t c) ≡ false → (H : List Event) → Legal t H

@@ -1,12 +1,9 @@
 -- What is taken from a sink keeps the network, the processes that are held, the number of commits and what is kept.
-use Rattle.std.proofs.Common.{ℕ, ℤ, Option, ◌∙◌}
-use Rattle.kpn_book.specs.Book.{Book}
-use Rattle.kpn_book.specs.Kept.{IsBook}
+use Rattle.kpn_pool.proofs.Common.{ℕ, ℤ, Option, ◌∙◌, Book, IsBook, KeepsHeld}
 use Rattle.kpn_book.specs.Refusals.{Takes}
 use Rattle.kpn_book.proofs.Held.{held_after_take}
 use Rattle.kpn_book.proofs.Remembered.{much-trans}
 use Rattle.kpn_pool_desk.proofs.Keeping.{takes}
-use Rattle.kpn_pool.specs.Ending.{KeepsHeld}
 
 -- one call more
 pub keeps_on : (c : ℕ) (item : Option ℤ) (first before after : Book) → IsBook before → KeepsHeld first before

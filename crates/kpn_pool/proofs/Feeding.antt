@@ -1,15 +1,7 @@
 -- The sources are looked at, one after the other.
-use Rattle.std.proofs.Common.{◌≡◌, ℕ, ◌+◌, true, false, ℤ, List, inl, inr, subst, sym, arith}
-use Rattle.std.proofs.lemmas.Bool.{cases_eq, both_ways}
-use Rattle.kpn_net.specs.Tables.{Tables, channel_at, is_source, is_sink}
-use Rattle.kpn_net.specs.Iteration.{given_by}
+use Rattle.kpn_pool.proofs.Common.{◌≡◌, ℕ, ◌+◌, true, false, ℤ, List, inl, inr, subst, sym, arith, cases_eq, both_ways, Tables, channel_at, is_source, is_sink, given_by, Event, is_closed, channel_in, Book, AreFedBelow, AreSourcesClosedBelow, AreSinksKeptBelow}
 use Rattle.kpn_history.specs.declared.state.View.{View}
 use Rattle.kpn_book.specs.Snapshot.{shown_on}
-use Rattle.kpn_history.specs.declared.event.Event.{Event}
-use Rattle.kpn_history.specs.Channels.{is_closed}
-use Rattle.kpn_machine.specs.Machine.{channel_in}
-use Rattle.kpn_book.specs.Book.{Book}
-use Rattle.kpn_pool.specs.Fed.{AreFedBelow, AreSourcesClosedBelow, AreSinksKeptBelow}
 
 module _ {A : Type 0} (t : Tables) (lists : List (List ℤ)) (view : View A) where
   pub fed_skip : (k : ℕ) → is_source (channel_at t k) ≡ false → AreFedBelow t lists view k

@@ -1,3 +1,4 @@
+pub mod Common
 mod Feeding
 mod Emptying
 mod Concluding

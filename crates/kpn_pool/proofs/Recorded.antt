@@ -1,11 +1,5 @@
 -- What the workers did is recorded, one after the other.
-use Rattle.std.proofs.Common.{◌≡◌, ℕ, ◌+◌, ◌<◌, List, [], ◌∷◌, ◌++◌, length, map, take, get_or, sym, ap, ◌∙◌, arith}
-use Rattle.std.specs.List.{sum_by}
-use Rattle.std.proofs.lemmas.List.{take_more, map_more}
-use Rattle.std.proofs.lemmas.List.Sums.{sum_by_push}
-use Rattle.kpn_pool_desk.specs.Seat.{Seat}
-use Rattle.kpn_pool.specs.declared.beside.Worked.{Worked}
-use Rattle.kpn_pool.specs.Causes.{worked_of}
+use Rattle.kpn_pool.proofs.Common.{◌≡◌, ℕ, ◌+◌, ◌<◌, List, [], ◌∷◌, ◌++◌, length, map, take, get_or, sym, ap, ◌∙◌, arith, sum_by, take_more, map_more, sum_by_push, Seat, Worked, worked_of}
 
 -- one worker more
 pub recorded_more : (seats : List Seat) (records now : List Worked) (i : ℕ) (seat : Seat) (done : Worked)

@@ -1,26 +1,11 @@
 -- What a worker does with several processes, one turn after the other.
-use Rattle.std.proofs.Common.{◌≡◌, ◌≢◌, ℕ, zero, suc, ◌+◌, ◌-◌, ◌<◌, Option, Some, None, List, [], ◌∷◌, ◌++◌, length, take, drop, get_or, inl, inr, refl, sym, ap, ◌∙◌, subst, arith, IfSome}
-use Rattle.std.specs.List.{All}
-use Rattle.std.specs.Prelude.{slice_set, slice_get}
-use Rattle.std.proofs.lemmas.Bool.{cases_order}
-use Rattle.std.proofs.lemmas.List.{take_more, take_more_set}
-use Rattle.std.proofs.lemmas.List.Elements.{All-append}
+use Rattle.kpn_pool_desk.proofs.Common.{◌≡◌, ◌≢◌, ℕ, zero, suc, ◌+◌, ◌-◌, ◌<◌, Option, Some, None, List, [], ◌∷◌, ◌++◌, length, take, drop, get_or, inl, inr, refl, sym, ap, ◌∙◌, subst, arith, IfSome, All, slice_set, slice_get, cases_order, take_more, take_more_set, All-append, Stop, Advanced, advanced_of, Book, IsHeld, IsOwnAdvance, RefusesCommit, Refused, Desk, EndsFor, with_book, with_commit, with_total, On, Abandon, Turn, HeldTurns, IsTurnOf, made_of, steps_of, CommitsOrDrops, PutsBack, InTurn, IsEnd, SettlesTurns, claimed_by, ComesBackWithTurns, LetsThrough}
 use Rattle.kpn_lang.specs.Parts.{Parts}
-use Rattle.kpn_step.specs.declared.stop.Stop.{Stop}
-use Rattle.kpn_step.specs.Stops.{Advanced, advanced_of}
-use Rattle.kpn_book.specs.Book.{Book, IsHeld}
-use Rattle.kpn_book.specs.Commits.{IsOwnAdvance}
-use Rattle.kpn_book.specs.Refusals.{RefusesCommit}
-use Rattle.kpn_book.specs.declared.answers.Refused.{Refused}
 use Rattle.kpn_book.specs.declared.answers.Refused.TheVariants as refused
 use Rattle.kpn_pool_desk.specs.declared.seat.Why.{Why}
 use Rattle.kpn_pool_desk.specs.declared.turn.Stepped.{Stepped}
 use Rattle.kpn_pool_desk.specs.declared.phases.NextMove.{NextMove}
-use Rattle.kpn_pool_desk.specs.Desk.{Desk, EndsFor, with_book, with_commit, with_total}
 use Rattle.kpn_pool_desk.specs.declared.gate.Go.{Go}
-use Rattle.kpn_pool_desk.specs.declared.gate.Go.TheVariants.{On, Abandon}
-use Rattle.kpn_pool_desk.specs.HeldTurns.{Turn, HeldTurns, IsTurnOf, made_of, steps_of, CommitsOrDrops, PutsBack, InTurn, IsEnd, SettlesTurns, claimed_by, ComesBackWithTurns}
-use Rattle.kpn_pool_desk.specs.Gate.{LetsThrough}
 
 -- ---- one turn more
 

@@ -1,19 +1,12 @@
 -- Regions are committed: the network stays, and commits are only added. Then items are taken from sinks.
-use Rattle.std.proofs.Common.{◌≡◌, ℕ, ◌+◌, ◌≤◌, ℤ, Bool, true, false, Option, Some, None, refl, ap, ◌∙◌, subst, arith}
-use Rattle.kpn_step.specs.declared.stop.Stop.{Stop}
+use Rattle.kpn_pool_desk.proofs.Common.{◌≡◌, ℕ, ◌+◌, ◌≤◌, ℤ, Bool, true, false, Option, Some, None, refl, ap, ◌∙◌, subst, arith, Stop, Book, with_one_commit, HandlesStop, ready_if_paused, base_tables, base_commits, commits_stay, tables_stay, Takes, Desk, with_book, TakesOn, no_take, one_take_more}
 use Rattle.kpn_region.specs.Batch.{Batch}
 use Rattle.kpn_book.specs.declared.answers.Done.{Done}
-use Rattle.kpn_book.specs.Book.{Book, with_one_commit}
-use Rattle.kpn_book.specs.Commits.{HandlesStop, ready_if_paused}
 use Rattle.kpn_book.specs.Regions.{commits_or_not, goes_to, settles_if, has_part, SettleBelow, none_yet, one_more}
 use Rattle.kpn_book.specs.RegionCalls.{CommitsRegion}
-use Rattle.kpn_book.proofs.Appended.{base_tables, base_commits, commits_stay, tables_stay}
-use Rattle.kpn_book.specs.Refusals.{Takes}
 use Rattle.kpn_region.specs.Batch.{stop_in}
 use Rattle.kpn_pool_desk.specs.declared.taking.Takers.{Takers}
 use Rattle.kpn_pool_desk.specs.declared.taking.Takers.TheVariants.{Workers}
-use Rattle.kpn_pool_desk.specs.Desk.{Desk, with_book}
-use Rattle.kpn_pool_desk.specs.RegionTurn.{TakesOn, no_take, one_take_more}
 
 -- ---- a commit
 

@@ -1,22 +1,8 @@
 -- The calls of the outside keep the network, the number of commits and what is kept, and what they say of the network.
-use Rattle.std.proofs.Common.{◌≡◌, ℕ, Bool, true, false, ℤ, List, ◌∷◌, ◌++◌, Option, Some, None, ap, sym, ◌∙◌, subst}
-use Rattle.kpn_lang.specs.Prefix.{IsPrefix}
-use Rattle.kpn_lang.proofs.Prefixes.{IsPrefix-from_rest}
+use Rattle.kpn_pool_desk.proofs.Common.{◌≡◌, ℕ, Bool, true, false, ℤ, List, ◌∷◌, ◌++◌, Option, Some, None, ap, sym, ◌∙◌, subst, IsPrefix, IsPrefix-from_rest, Tables, channel_at, is_source, is_sink, Event, Book, IsBook, Appends, Happens, Refused, RefusesFeed, RefusesClose, RefusesTake, RefusesLeave, closes_by, takes_item, leaves_by, RemembersAsMuch, commits_stay, tables_stay, same_much, appends_much, happens_much, Desk, IsDesk, with_book, with_total, MayRefuseFeed, MayRefuseEnd, MayRefuseTake}
 use Rattle.kpn_net.specs.declared.tables.ChannelSpec.{ChannelSpec}
-use Rattle.kpn_net.specs.Tables.{Tables, channel_at, is_source, is_sink}
-use Rattle.kpn_history.specs.declared.event.Event.{Event}
 use Rattle.kpn_history.specs.declared.keeping.Keeping.{Keeping}
-use Rattle.kpn_book.specs.Book.{Book}
-use Rattle.kpn_book.specs.Kept.{IsBook}
-use Rattle.kpn_book.specs.Appending.{Appends, Happens}
-use Rattle.kpn_book.specs.declared.answers.Refused.{Refused}
 use Rattle.kpn_book.specs.declared.answers.Refused.TheVariants.{NoMemory, NoSuchEnd, SourceClosed, Full, SinkLeft}
-use Rattle.kpn_book.specs.Refusals.{RefusesFeed, RefusesClose, RefusesTake, RefusesLeave, closes_by, takes_item, leaves_by}
-use Rattle.kpn_book.specs.Remembering.{RemembersAsMuch}
-use Rattle.kpn_book.proofs.Appended.{commits_stay, tables_stay}
-use Rattle.kpn_book.proofs.Remembered.{same_much, appends_much, happens_much}
-use Rattle.kpn_pool_desk.specs.Desk.{Desk, IsDesk, with_book, with_total}
-use Rattle.kpn_pool_desk.specs.OutsideSeats.{MayRefuseFeed, MayRefuseEnd, MayRefuseTake}
 
 -- the network, the number of commits and what is kept are the same
 pub record KeepsCount (before after : Book) : Type 0 where

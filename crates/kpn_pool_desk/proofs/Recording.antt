@@ -1,22 +1,8 @@
 -- The items that a seat feeds or takes in one call, and the events that record them in the book.
-use Rattle.std.proofs.Common.{◌≡◌, ℕ, zero, suc, ◌+◌, ◌<◌, ◌≤◌, true, false, ℤ, pos, List, [], ◌∷◌, ◌++◌, length, map, take, drop, get_or, Option, Some, None, is_some, refl, sym, ap, ◌∙◌, subst, arith, append-nil}
-use Rattle.std.specs.Prelude.{slice_get, slice_set}
-use Rattle.std.proofs.lemmas.Bool.{false≢true}
-use Rattle.std.proofs.lemmas.List.{append_assoc, map-append}
-use Rattle.std.proofs.lemmas.Option.{slice_get-get_or}
-use Rattle.kpn_net.specs.Tables.{Tables}
-use Rattle.kpn_net.proofs.Networks.{sink_there}
-use Rattle.kpn_chan.specs.Channel.{ChannelState, next_item, unread}
+use Rattle.kpn_pool_desk.proofs.Common.{◌≡◌, ℕ, zero, suc, ◌+◌, ◌<◌, ◌≤◌, true, false, ℤ, pos, List, [], ◌∷◌, ◌++◌, length, map, take, drop, get_or, Option, Some, None, is_some, refl, sym, ap, ◌∙◌, subst, arith, append-nil, slice_get, slice_set, false≢true, append_assoc, map-append, slice_get-get_or, Tables, sink_there, ChannelState, next_item, unread, Event, channel_in, Book, Appends, AppendsAll, IsGrowthOwed, AllHappen, Takes, Desk, EndSeat, with_new_item, with_taken, AreRecorded, FeedsUntil, TakesFirst, TakesAll, TakeInTurn}
 use Rattle.kpn_chan.proofs.Reading.{given, drop-given}
-use Rattle.kpn_history.specs.declared.event.Event.{Event}
 use Rattle.kpn_history.specs.declared.event.Event.TheVariants as event
 use Rattle.kpn_history.proofs.OneMore.{item_here}
-use Rattle.kpn_machine.specs.Machine.{channel_in}
-use Rattle.kpn_book.specs.Book.{Book}
-use Rattle.kpn_book.specs.Appending.{Appends, AppendsAll, IsGrowthOwed, AllHappen}
-use Rattle.kpn_book.specs.Refusals.{Takes}
-use Rattle.kpn_pool_desk.specs.Desk.{Desk}
-use Rattle.kpn_pool_desk.specs.OutsideSeats.{EndSeat, with_new_item, with_taken, AreRecorded, FeedsUntil, TakesFirst, TakesAll, TakeInTurn}
 
 -- ---- some items, and then more
 

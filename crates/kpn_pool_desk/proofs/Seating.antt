@@ -1,17 +1,6 @@
 -- The seats of the outside, channel by channel, and item by item.
-use Rattle.std.proofs.Common.{◌≡◌, ◌≢◌, ℕ, ◌+◌, ◌<◌, ◌≤◌, true, false, ℤ, pos, Bool, cond, List, [], ◌∷◌, ◌++◌, length, map, take, drop, get_or, zero, suc, refl, sym, ap, ◌∙◌, subst, arith}
-use Rattle.std.specs.Prelude.{nat_lt, slice_set}
-use Rattle.std.proofs.lemmas.Bool.{ltb-false}
-use Rattle.std.proofs.lemmas.List.{take_more, take_all, append_assoc}
-use Rattle.std.proofs.lemmas.List.Elements.{All-more}
-use Rattle.std.proofs.lemmas.Option.{slice_get-get_or}
-use Rattle.std.specs.List.{All, filter, range_with_len}
+use Rattle.kpn_pool_desk.proofs.Common.{◌≡◌, ◌≢◌, ℕ, ◌+◌, ◌<◌, ◌≤◌, true, false, ℤ, pos, Bool, cond, List, [], ◌∷◌, ◌++◌, length, map, take, drop, get_or, zero, suc, refl, sym, ap, ◌∙◌, subst, arith, nat_lt, slice_set, ltb-false, take_more, take_all, append_assoc, All-more, slice_get-get_or, All, filter, range_with_len, Desk, with_book, Tables, channel_at, is_sink, Refused, EndSeat, kept_by, new_end, with_new_item, HasNoSeat, TakesMore, HaveTaken, AreSinks, MayRefuseTake, MayRefuseTakes, IsPrefix-refl, IsPrefix-trans}
 use Rattle.std.proofs.lemmas.List.FromFn.{filter_of_map_range_with_len_more}
-use Rattle.kpn_pool_desk.specs.Desk.{Desk, with_book}
-use Rattle.kpn_net.specs.Tables.{Tables, channel_at, is_sink}
-use Rattle.kpn_book.specs.declared.answers.Refused.{Refused}
-use Rattle.kpn_pool_desk.specs.OutsideSeats.{EndSeat, kept_by, new_end, with_new_item, HasNoSeat, TakesMore, HaveTaken, AreSinks, MayRefuseTake, MayRefuseTakes}
-use Rattle.kpn_lang.proofs.Prefixes.{IsPrefix-refl, IsPrefix-trans}
 
 -- one channel more is looked at
 pub one_more : (p : EndSeat → Bool) (c : ℕ) (seats now : List EndSeat)

@@ -1,17 +1,6 @@
 -- A batch after a claim, after it was cleared, and after a turn.
 use Rattle.std.proofs.Common.{◌≡◌, ℕ, zero, suc, ◌+◌, ◌<◌, Bool, true, false, cond, IsTrue, IfSome, List, [], ◌∷◌, length, map, get_or, slice_set, replicate, Option, Some, None, ℤ, refl, sym, ap, ◌∙◌, subst, inl, inr, arith, length-set}
-use Rattle.std.proofs.lemmas.Bool.{cases_eq, false≢true}
-use Rattle.std.proofs.lemmas.List.{get_or-set_same, get_or-set_other, map-set, length-map, take_all, length-replicate}
-use Rattle.std.proofs.lemmas.List.Sums.{sum_by-append}
-use Rattle.kpn_net.specs.Tables.{Tables, program_of}
-use Rattle.kpn_step.specs.declared.stop.Stop.{Stop}
-use Rattle.kpn_step.specs.Frame.{Frame, fits}
-use Rattle.kpn_history.specs.declared.event.Event.{Event}
-use Rattle.kpn_history.specs.Talks.{is_of_process, process_events}
-use Rattle.kpn_machine.specs.Machine.{no_frame}
-use Rattle.kpn_region.specs.Local.{SideState, no_side, claimed_with, as_claimed, Local, frame_at, with_side, IsLocal, Plays, no_event}
-use Rattle.kpn_region.specs.Batch.{Batch, batch_of, IsStuckAt, IsBatch, IsFresh, IsEmpty}
-use Rattle.kpn_region.specs.Turn.{MakesEvents}
+use Rattle.kpn_region.proofs.Common.{cases_eq, false≢true, get_or-set_same, get_or-set_other, map-set, length-map, take_all, length-replicate, sum_by-append, Tables, program_of, Stop, Frame, fits, Event, is_of_process, process_events, no_frame, SideState, no_side, claimed_with, as_claimed, Local, frame_at, with_side, IsLocal, Plays, no_event, Batch, batch_of, IsStuckAt, IsBatch, IsFresh, IsEmpty, MakesEvents}
 use Rattle.kpn_region.proofs.Turns.{as_many}
 
 -- ---- lists of one value

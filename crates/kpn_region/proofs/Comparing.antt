@@ -1,12 +1,7 @@
 -- What the tests of a channel and its claim say.
 use Rattle.std.proofs.Common.{◌≡◌, ◌↔◌, ℕ, ◌+◌, ◌-◌, ◌≤◌, ◌&&◌, ◌||◌, Bool, true, false, not, leb, leb-true, le-leb, eqb, eqb-true, eq-eqb, min, ℤ, List, [], ◌++◌, length, take, drop, Option, Some, None, refl, sym, ap, ◌∙◌, subst, inl, inr, arith, append-nil}
-use Rattle.std.proofs.Math.Seq.{take-append-add, take-append_seam, drop-append_seam}
-use Rattle.std.proofs.lemmas.Bool.{cases_lt, false≢true, and_parts, or_cases}
+use Rattle.kpn_region.proofs.Common.{take-append-add, take-append_seam, drop-append_seam, cases_lt, false≢true, and_parts, or_cases, Tables, channel_at, is_sink, ChannelState, unread, readable, has_places_for, SideState, TakesInOrder, ChannelAgrees}
 use Rattle.std.proofs.lemmas.List.{length-take, length-drop, take_all, take-append-le, take-append-drop}
-use Rattle.kpn_net.specs.Tables.{Tables, channel_at, is_sink}
-use Rattle.kpn_chan.specs.Channel.{ChannelState, unread, readable, has_places_for}
-use Rattle.kpn_region.specs.Local.{SideState}
-use Rattle.kpn_region.specs.Joining.{TakesInOrder, ChannelAgrees}
 use Rattle.kpn_region.specs.Agreeing.{is_within_capacity, keeps_capacity, empties_a_sink, takes_in_order, rest_agrees}
 
 both_true : (a b : Bool) → a ≡ true → b ≡ true → (a && b) ≡ true

@@ -1,18 +1,5 @@
 -- The law of a batch: the history with its events leads to the joined machine, and nothing is owed after it.
-use Rattle.std.proofs.Common.{◌≡◌, ℕ, ◌<◌, ◌≤◌, true, false, IsTrue, List, ◌++◌, length, get_or, None, is_some, sym, ap, ◌∙◌, subst}
-use Rattle.std.proofs.lemmas.List.{get_or-map}
-use Rattle.kpn_net.specs.declared.wait.Wait.TheVariants.{Full}
-use Rattle.kpn_net.specs.Tables.{Tables, program_of}
-use Rattle.kpn_net.specs.Faults.{IsNetwork}
-use Rattle.kpn_net.specs.Waits.{IsOwnWait}
-use Rattle.kpn_step.specs.Frame.{fits}
-use Rattle.kpn_history.specs.declared.event.Event.{Event}
-use Rattle.kpn_history.specs.Stops.{OwesNothing}
-use Rattle.kpn_machine.specs.Machine.{Machine, channel_in, wait_in, end_in, frame_in}
-use Rattle.kpn_machine.specs.Run.{IsEndOf, StandsAfter, IsRun}
-use Rattle.kpn_region.specs.Local.{SideState, no_side, as_claimed, is_in_region, frame_at, side_at, IsLocal, Plays}
-use Rattle.kpn_region.specs.Batch.{Batch, IsBatch}
-use Rattle.kpn_region.specs.Joining.{IsClaimOf, items_put, AgreesWith, Joins}
+use Rattle.kpn_region.proofs.Common.{◌≡◌, ℕ, ◌<◌, ◌≤◌, true, false, IsTrue, List, ◌++◌, length, get_or, None, is_some, sym, ap, ◌∙◌, subst, get_or-map, Full, Tables, program_of, IsNetwork, IsOwnWait, fits, Event, OwesNothing, Machine, channel_in, wait_in, end_in, frame_in, IsEndOf, StandsAfter, IsRun, SideState, no_side, as_claimed, is_in_region, frame_at, side_at, IsLocal, Plays, Batch, IsBatch, IsClaimOf, items_put, AgreesWith, Joins}
 use Rattle.kpn_region.proofs.OnTheWay.{put_so_far}
 use Rattle.kpn_region.proofs.Playing.{IsUnused, IsReached, within_there, sound, reaches}
 

@@ -1,12 +1,8 @@
 -- Processes and channels of a network have small numbers, and those at its ports are there.
-use Rattle.std.proofs.Common.{ℕ, ◌<◌, List, length, subst, arith}
+use Rattle.kpn_region.proofs.Common.{ℕ, ◌<◌, List, length, subst, arith, Tables, instance_at, IsNetwork, sizes, IsChannelAt}
 use Rattle.std.specs.List.{Contains}
 use Rattle.std.proofs.lemmas.List.Elements.{Contains-get_or}
-use Rattle.kpn_net.specs.Tables.{Tables, instance_at}
-use Rattle.kpn_net.specs.Faults.{IsNetwork}
-use Rattle.kpn_net.proofs.Networks.{sizes}
 use Rattle.kpn_net.proofs.PortsApart.{in_is_there, out_is_there}
-use Rattle.kpn_machine.specs.Changes.{IsChannelAt}
 
 among : (ports : List ℕ) (port c : ℕ) → IsChannelAt ports port c → Contains ports c
 among ports port c at = subst (λ x. Contains ports x) at.1 (Contains-get_or ports port 0 at.0)

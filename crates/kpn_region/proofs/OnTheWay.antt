@@ -1,16 +1,8 @@
 -- What stands of one channel while a batch is played on a machine: the next get finds its item there, the next
 -- put finds room, and both keep what stands.
-use Rattle.std.proofs.Common.{◌≡◌, ℕ, zero, suc, ◌+◌, ◌-◌, ◌<◌, ◌≤◌, ◌&&◌, Bool, true, false, not, ℤ, cond, max, IsTrue, List, [], ◌∷◌, ◌++◌, length, take, drop, get_or, Option, Some, None, slice_get, refl, sym, ap, ◌∙◌, inl, inr, arith, append-nil, append_assoc, add-zero, length-append}
-use Rattle.std.proofs.Math.Seq.{drop-append_seam}
-use Rattle.std.proofs.lemmas.Bool.{lt-leb, false≢true}
+use Rattle.kpn_region.proofs.Common.{◌≡◌, ℕ, zero, suc, ◌+◌, ◌-◌, ◌<◌, ◌≤◌, ◌&&◌, Bool, true, false, not, ℤ, cond, max, IsTrue, List, [], ◌∷◌, ◌++◌, length, take, drop, get_or, Option, Some, None, slice_get, refl, sym, ap, ◌∙◌, inl, inr, arith, append-nil, append_assoc, add-zero, length-append, drop-append_seam, lt-leb, false≢true, slice_get_within, slice_get-get_or, get_or_from_slice_get, length_of_prefix, rest_of_prefix, same_from_prefix, IsPrefix-from_rest, Tables, ChannelState, unread, fills, is_channel_full, next_item, after_put, after_get, most_after_put, SideState, untaken, next_of, with_next_taken, with_item_put, IsClaimOf, TakesInOrder, items_put, most_with, most_joined}
 use Rattle.std.proofs.lemmas.List.{length-drop, take-append-drop, drop-append-le, get_or-drop, get_or_append_left}
-use Rattle.std.proofs.lemmas.Option.{slice_get_within, slice_get-get_or, get_or_from_slice_get}
 use Rattle.kpn_lang.specs.Prefix.{IsPrefix}
-use Rattle.kpn_lang.proofs.Prefixes.{length_of_prefix, rest_of_prefix, same_from_prefix, IsPrefix-from_rest}
-use Rattle.kpn_net.specs.Tables.{Tables}
-use Rattle.kpn_chan.specs.Channel.{ChannelState, unread, fills, is_channel_full, next_item, after_put, after_get, most_after_put}
-use Rattle.kpn_region.specs.Local.{SideState, untaken, next_of, with_next_taken, with_item_put}
-use Rattle.kpn_region.specs.Joining.{IsClaimOf, TakesInOrder, items_put, most_with, most_joined}
 
 -- the side after some events, from its claim, and the channel after them
 pub record IsOnTheWay (claim side : SideState) (before now : ChannelState) : Type 0 where

@@ -1,19 +1,7 @@
 -- A batch that is joined channel by channel, and then process by process, is joined.
 use Rattle.std.proofs.Common.{◌≡◌, ◌≢◌, ℕ, ◌+◌, ◌-◌, ◌<◌, ◌≤◌, ◌&&◌, ◌||◌, ℤ, Bool, true, false, ltb, eqb, cond, List, [], ◌++◌, length, get_or, None, refl, sym, ap, ◌∙◌, subst, inl, inr, arith, append-nil, length-set}
-use Rattle.std.proofs.lemmas.Bool.{cases_eq, cases_lt}
-use Rattle.std.proofs.lemmas.Bool.Decides.{nat_tests}
+use Rattle.kpn_region.proofs.Common.{cases_eq, cases_lt, nat_tests, Wait, Nobody, Empty, Full, wait_at, AreWaits, ChannelState, unread, opened, Machine, channel_in, wait_in, frame_in, no_frame, with_channel, with_frame, ends_by_batch, SideState, no_side, is_in_region, frame_at, side_at, side_in, Batch, IsBatch, items_put, has_put_items, has_taken, most_with, most_joined, wait_joined, IsChannelJoined, Joins, JoinsChannel, wait_joined_below, JoinsChannels, JoinsFrames}
 use Rattle.std.proofs.lemmas.List.{get_or-set_same, get_or-set_other, get_or_past, set-get_or, length-drop}
-use Rattle.kpn_net.specs.declared.wait.Wait.{Wait}
-use Rattle.kpn_net.specs.declared.wait.Wait.TheVariants.{Nobody, Empty, Full}
-use Rattle.kpn_net.specs.Waits.{wait_at, AreWaits}
-use Rattle.kpn_chan.specs.Channel.{ChannelState, unread, opened}
-use Rattle.kpn_machine.specs.Machine.{Machine, channel_in, wait_in, frame_in, no_frame, with_channel, with_frame}
-use Rattle.kpn_machine.specs.Woken.{ends_by_batch}
-use Rattle.kpn_region.specs.Local.{SideState, no_side, is_in_region, frame_at, side_at}
-use Rattle.kpn_region.specs.Turn.{side_in}
-use Rattle.kpn_region.specs.Batch.{Batch, IsBatch}
-use Rattle.kpn_region.specs.Joining.{items_put, has_put_items, has_taken, most_with, most_joined, wait_joined, IsChannelJoined, Joins}
-use Rattle.kpn_region.specs.JoiningParts.{JoinsChannel, wait_joined_below, JoinsChannels, JoinsFrames}
 use Rattle.kpn_region.proofs.Sides.{IsSideKept}
 
 -- ---- a channel of which nothing was taken, and on which nothing was put

@@ -2,42 +2,21 @@
 -- agrees with what stands in the region.
 use Rattle.std.proofs.Common.{◌≡◌, ◌≢◌, ℕ, ◌+◌, ◌<◌, ◌≤◌, ◌||◌, Bool, true, false, not, ℤ, cond, eqb, eq-eqb, ltb, lt-ltb, le-ltb, List, [], ◌∷◌, ◌++◌, length, get_or, slice_set, Option, Some, None, refl, sym, ap, ◌∙◌, subst, inl, inr, ◌⊎◌, arith, append-nil, append_assoc, length-append, length-set}
 use Rattle.std.proofs.lemmas.Bool.{cases_eq, cases_lt, ne_eqb, eqb-true, false≢true}
-use Rattle.std.proofs.lemmas.List.{get_or-set_same, get_or-set_other, get_or_past}
-use Rattle.std.proofs.lemmas.Option.{slice_get_within}
-use Rattle.kpn_lang.proofs.Prefixes.{length_of_prefix}
-use Rattle.kpn_net.specs.declared.wait.Wait.{Wait}
-use Rattle.kpn_net.specs.declared.wait.Wait.TheVariants.{Nobody, Empty, Full}
+use Rattle.kpn_region.proofs.Common.{get_or-set_same, get_or-set_other, get_or_past, slice_get_within, length_of_prefix, Wait, Nobody, Empty, Full, Tables, reader_of, writer_of, program_of, IsNetwork, Frame, advanced_of, ChannelState, opened, is_channel_full, next_item, after_put, after_get, Event, Get, Put, Take, is_of, OwesNothing, Machine, channel_in, wait_in, end_in, frame_in, no_frame, IsFree, PassesRead, PassesWrite, IsEndOf, IsRun, is_wait, woken_at, Made, Made-put, Made-got, Made-taken, SideState, no_side, with_next_taken, with_item_put, Local, is_in_region, frame_at, side_at, with_local_frame, IsLocal, Advances, RegionGets, RegionPuts, RegionTakes, LocalStep, Plays, no_event, steps_on, one_event_more, side_in, IsClaimOf, IsUnclaimedSink, TakesInOrder, has_put_items, has_taken, wait_joined}
 use Rattle.kpn_net.specs.declared.tables.End.TheVariants.{Process}
-use Rattle.kpn_net.specs.Tables.{Tables, reader_of, writer_of, program_of}
-use Rattle.kpn_net.specs.Faults.{IsNetwork}
-use Rattle.kpn_step.specs.Frame.{Frame}
-use Rattle.kpn_step.specs.Stops.{advanced_of}
-use Rattle.kpn_chan.specs.Channel.{ChannelState, opened, is_channel_full, next_item, after_put, after_get}
-use Rattle.kpn_history.specs.declared.event.Event.{Event}
-use Rattle.kpn_history.specs.declared.event.Event.TheVariants.{Get, Put, Take}
-use Rattle.kpn_history.specs.Talks.{is_of}
 use Rattle.kpn_history.specs.Channels.{written_on, read_on, lives}
 use Rattle.kpn_history.specs.WaitsAfter.{wait_made}
 use Rattle.kpn_history.specs.Waking.{wakes_reader, wakes_writer, wakes, wait_then}
 use Rattle.kpn_history.specs.Legal.{HasNumbers, waiter}
-use Rattle.kpn_history.specs.Stops.{OwesNothing}
 use Rattle.kpn_history.proofs.Growth.{last_waiter-push}
 use Rattle.kpn_history.proofs.Journals.{reads_begin_writes}
 use Rattle.kpn_history.proofs.Stops.{is_blocked}
-use Rattle.kpn_machine.specs.Machine.{Machine, channel_in, wait_in, end_in, frame_in, no_frame, IsFree}
-use Rattle.kpn_machine.specs.Changes.{PassesRead, PassesWrite}
 use Rattle.kpn_machine.specs.Due.{ReadsFrom, WritesTo, IsDueNow}
-use Rattle.kpn_machine.specs.Run.{IsEndOf, IsRun}
-use Rattle.kpn_machine.specs.Woken.{is_wait, woken_at}
-use Rattle.kpn_machine.proofs.Calls.{Made, Made-put, Made-got, Made-taken}
 use Rattle.kpn_machine.proofs.Due.{Legal-due}
 use Rattle.kpn_machine.proofs.Going.{reader_is_awake, writer_is_awake}
 use Rattle.kpn_machine.proofs.Moving.{IsRun-moved}
 use Rattle.kpn_machine.proofs.Ports.{reads_own, writes_own}
 use Rattle.kpn_machine.proofs.Running.{IsRun-next}
-use Rattle.kpn_region.specs.Local.{SideState, no_side, with_next_taken, with_item_put, Local, is_in_region, frame_at, side_at, with_local_frame, IsLocal, Advances, RegionGets, RegionPuts, RegionTakes, LocalStep, Plays, no_event, steps_on, one_event_more}
-use Rattle.kpn_region.specs.Turn.{side_in}
-use Rattle.kpn_region.specs.Joining.{IsClaimOf, IsUnclaimedSink, TakesInOrder, has_put_items, has_taken, wait_joined}
 use Rattle.kpn_region.proofs.OnTheWay.{IsOnTheWay, starts, got, gives, has_room, put_more}
 
 -- ---- frames and waits after one event

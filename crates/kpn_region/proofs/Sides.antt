@@ -1,19 +1,9 @@
 -- What stands of each channel of a batch: how what was put, what was taken, the room and the most go together. So what
 -- the region has put may be joined to a channel with which it agrees.
-use Rattle.std.proofs.Common.{◌≡◌, ℕ, zero, suc, ◌+◌, ◌-◌, ◌<◌, ◌≤◌, ◌^◌, ◌||◌, Bool, true, false, eqb, ltb, cond, max, ℤ, IsTrue, List, [], ◌∷◌, ◌++◌, length, take, drop, get_or, Some, refl, sym, ap, ◌∙◌, subst, inl, inr, arith, length-append}
+use Rattle.kpn_region.proofs.Common.{◌≡◌, ℕ, zero, suc, ◌+◌, ◌-◌, ◌<◌, ◌≤◌, ◌^◌, ◌||◌, Bool, true, false, eqb, ltb, cond, max, ℤ, IsTrue, List, [], ◌∷◌, ◌++◌, length, take, drop, get_or, Some, refl, sym, ap, ◌∙◌, subst, inl, inr, arith, length-append, nat_tests, slice_get_within, Tables, ChannelState, unread, MayJoin, batch_joined, readable, Event, Get, Put, Take, SideState, no_side, untaken, next_of, with_next_taken, with_item_put, as_claimed, Local, side_at, with_side, LocalStep, Plays, no_event, steps_on, one_event_more, Batch, IsBatch, ChannelAgrees, items_put, most_with, IsChannelJoined, most_seen}
 use Rattle.std.proofs.lemmas.Bool.{cases_Bool, cases_eq, cases_lt, eqb-true}
-use Rattle.std.proofs.lemmas.Bool.Decides.{nat_tests}
 use Rattle.std.proofs.lemmas.List.{length-drop, length-take, get_or-map, length-set}
-use Rattle.std.proofs.lemmas.Option.{slice_get_within}
-use Rattle.kpn_net.specs.Tables.{Tables}
-use Rattle.kpn_chan.specs.Channel.{ChannelState, unread, MayJoin, batch_joined, readable}
 use Rattle.kpn_chan.proofs.Places.{places_are}
-use Rattle.kpn_history.specs.declared.event.Event.{Event}
-use Rattle.kpn_history.specs.declared.event.Event.TheVariants.{Get, Put, Take}
-use Rattle.kpn_region.specs.Local.{SideState, no_side, untaken, next_of, with_next_taken, with_item_put, as_claimed, Local, side_at, with_side, LocalStep, Plays, no_event, steps_on, one_event_more}
-use Rattle.kpn_region.specs.Batch.{Batch, IsBatch}
-use Rattle.kpn_region.specs.Joining.{ChannelAgrees, items_put, most_with, IsChannelJoined}
-use Rattle.kpn_region.specs.JoiningParts.{most_seen}
 use Rattle.kpn_region.proofs.Playing.{side_same, side_other}
 
 -- ---- one side

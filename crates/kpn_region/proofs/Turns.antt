@@ -1,18 +1,6 @@
 -- What steps and events of a process do to the state of its region, and what follows for its turn.
 use Rattle.std.proofs.Common.{◌≡◌, ℕ, ◌+◌, ◌<◌, ℤ, true, cond, IsTrue, List, [], ◌∷◌, ◌++◌, length, map, slice_set, Option, Some, None, refl, sym, ap, ◌∙◌, subst, arith, append-nil, append_assoc, length-append, length-set, add-zero}
-use Rattle.std.proofs.lemmas.List.{get_or-set_same, set-set, set-get_or, map-set, get_or-map, length-map}
-use Rattle.std.proofs.lemmas.List.Sums.{sum_by-append}
-use Rattle.kpn_net.specs.Tables.{Tables, program_of}
-use Rattle.kpn_step.specs.declared.stop.Stop.{Stop}
-use Rattle.kpn_step.specs.Frame.{Frame, fits}
-use Rattle.kpn_step.specs.Stops.{IsAdvance, advanced_of}
-use Rattle.kpn_history.specs.declared.event.Event.{Event}
-use Rattle.kpn_history.specs.declared.event.Event.TheVariants.{Get, Put, Take}
-use Rattle.kpn_history.specs.Talks.{is_of_process, process_events}
-use Rattle.kpn_machine.specs.Machine.{no_frame}
-use Rattle.kpn_machine.specs.Changes.{PassesRead, PassesWrite}
-use Rattle.kpn_region.specs.Local.{SideState, no_side, next_of, untaken, with_next_taken, with_item_put, as_claimed, Local, Plays, steps_on, one_event_more}
-use Rattle.kpn_region.specs.Turn.{side_in, IsGot, IsTaken, IsPutOn, HasPart, with_part, MakesEvents}
+use Rattle.kpn_region.proofs.Common.{get_or-set_same, set-set, set-get_or, map-set, get_or-map, length-map, sum_by-append, Tables, program_of, Stop, Frame, fits, IsAdvance, advanced_of, Event, Get, Put, Take, is_of_process, process_events, no_frame, PassesRead, PassesWrite, SideState, no_side, next_of, untaken, with_next_taken, with_item_put, as_claimed, Local, Plays, steps_on, one_event_more, side_in, IsGot, IsTaken, IsPutOn, HasPart, with_part, MakesEvents}
 
 -- ---- what was claimed stays
 

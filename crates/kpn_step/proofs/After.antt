@@ -1,26 +1,9 @@
 -- The frame of a process after its talk, and what the process can say and come to from there.
 use Rattle.std.proofs.Common.{◌≡◌, ◌≢◌, ℕ, ◌<◌, ℤ, true, false, eqb, cond, List, [], ◌∷◌, ◌++◌, length, set, get_or, refl, sym, ap, subst, ◌∙◌, inl, inr, arith, append_assoc, append-nil, length-set}
-use Rattle.std.specs.Prelude.{◌↔◌}
-use Rattle.std.proofs.lemmas.Bool.{cases_eq}
-use Rattle.std.proofs.lemmas.Bool.Decides.{nat_tests}
-use Rattle.std.proofs.lemmas.List.{same_lists, get_or_default, set-set, set-get_or}
-use Rattle.kpn_lang.specs.declared.value.Fault.{Fault}
-use Rattle.kpn_lang.specs.declared.talk.Said.{Said}
-use Rattle.kpn_lang.specs.declared.talk.Said.TheVariants.{Got, Put}
-use Rattle.kpn_lang.specs.declared.talk.Ending.{Ending}
+use Rattle.kpn_step.proofs.Common.{◌↔◌, cases_eq, nat_tests, same_lists, get_or_default, set-set, set-get_or, Fault, Said, Got, Put, Ending, Statement, Parts, IsProgram, Ran, Lists, list_at, ends, says, Process, CanSay, ComesTo, alone, got_at, port_is_there, list_at-set_same, list_at-set_other, Stop, Frame, start_frame, passed, residual, StandsAt, IsGiven, Advanced, IsAdvance, GoesOnAs, IsRestAfter, IsAfter, SaysNext, EndsThere}
 use Rattle.kpn_lang.specs.declared.talk.Ending.TheVariants as ending
-use Rattle.kpn_lang.specs.Syntax.{Statement}
-use Rattle.kpn_lang.specs.Parts.{Parts, IsProgram}
-use Rattle.kpn_lang.specs.Run.{Ran, Lists, list_at, ends, says}
-use Rattle.kpn_lang.specs.Alone.{Process, CanSay, ComesTo, alone, got_at}
-use Rattle.kpn_lang.proofs.Families.{port_is_there, list_at-set_same, list_at-set_other}
 use Rattle.kpn_lang.proofs.Talks.{got_at-append}
-use Rattle.kpn_step.specs.declared.stop.Stop.{Stop}
 use Rattle.kpn_step.specs.declared.stop.Stop.TheVariants.{WantRead, WantWrite, Done, Faulted, Paused}
-use Rattle.kpn_step.specs.Frame.{Frame, start_frame, passed}
-use Rattle.kpn_step.specs.Residual.{residual}
-use Rattle.kpn_step.specs.Stops.{StandsAt, IsGiven, Advanced, IsAdvance}
-use Rattle.kpn_step.specs.After.{GoesOnAs, IsRestAfter, IsAfter, SaysNext, EndsThere}
 use Rattle.kpn_step.proofs.Walked.{GoesOnAs-same, GoesOnAs-said, GoesOnAs-trans, SaysTheSame-start}
 
 -- ---- what the talk took from the lists

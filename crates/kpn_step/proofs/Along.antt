@@ -1,25 +1,6 @@
 -- A process on its way through whole lists: what it did so far, and that it comes to an end.
-use Rattle.std.proofs.Common.{◌≡◌, ℕ, zero, suc, ◌+◌, ◌-◌, ◌*◌, ◌<◌, ◌≤◌, ℤ, nat_eq, List, [], ◌∷◌, ◌++◌, length, IsTrue, ap, subst, ◌∙◌, arith}
-use Rattle.std.specs.List.{sum_by}
-use Rattle.std.proofs.lemmas.Bool.Decides.{nat_tests}
-use Rattle.std.proofs.lemmas.List.Sums.{sum_by-cons}
-use Rattle.std.proofs.lemmas.Option.{slice_get_within}
-use Rattle.kpn_lang.specs.declared.talk.Said.{Said}
-use Rattle.kpn_lang.specs.declared.talk.Said.TheVariants.{Got, Put}
-use Rattle.kpn_lang.specs.Syntax.{Statement, Read}
-use Rattle.kpn_lang.specs.Tree.{block_at}
-use Rattle.kpn_lang.specs.Run.{Lists}
-use Rattle.kpn_lang.specs.Parts.{Parts, IsProgram}
-use Rattle.kpn_step.specs.declared.stop.Stop.{Stop}
-use Rattle.kpn_step.specs.declared.stop.AloneStop.{AloneStop}
+use Rattle.kpn_step.proofs.Common.{◌≡◌, ℕ, zero, suc, ◌+◌, ◌-◌, ◌*◌, ◌<◌, ◌≤◌, ℤ, nat_eq, List, [], ◌∷◌, ◌++◌, length, IsTrue, ap, subst, ◌∙◌, arith, sum_by, nat_tests, sum_by-cons, slice_get_within, Said, Got, Put, Statement, Read, block_at, Lists, Parts, IsProgram, Stop, AloneStop, Frame, start_frame, fits, step_of, Steps, StandsAt, stop_at, Speaks, Walks, AloneGives, Walked, remaining, EndsAs}
 use Rattle.kpn_step.specs.declared.stop.AloneStop.TheVariants.{Done, Faulted, Starved, Paused}
-use Rattle.kpn_step.specs.Frame.{Frame, start_frame, fits}
-use Rattle.kpn_step.specs.Step.{step_of, Steps}
-use Rattle.kpn_step.specs.Stops.{StandsAt, stop_at}
-use Rattle.kpn_step.specs.Walk.{Speaks, Walks, AloneGives}
-use Rattle.kpn_step.specs.Stepped.{Walked}
-use Rattle.kpn_lang.specs.Lists.{remaining}
-use Rattle.kpn_step.specs.Ended.{EndsAs}
 use Rattle.kpn_step.proofs.MayStep.{write_within}
 use Rattle.kpn_step.proofs.Stands.{StandsAt-stop_at}
 use Rattle.kpn_step.proofs.Walked.{Walks-steps, Walks-said, fits-alone, AloneGives-done, AloneGives-faulted, AloneGives-starved, AloneGives-paused}

@@ -1,3 +1,4 @@
+pub mod Common
 mod Rounds
 pub mod After
 pub mod Along

@@ -1,13 +1,7 @@
 -- When two processes say the same: it is enough that each covers the other.
-use Rattle.std.proofs.Common.{◌≡◌, ◌≢◌, ℕ, List, refl, sym, ap, ◌∙◌}
-use Rattle.kpn_lang.specs.declared.talk.Said.{Said}
-use Rattle.kpn_lang.specs.declared.talk.Ending.{Ending}
-use Rattle.kpn_lang.specs.declared.talk.Ending.TheVariants.{Cut}
-use Rattle.kpn_lang.specs.Run.{Ran, Lists}
+use Rattle.kpn_step.proofs.Common.{◌≡◌, ◌≢◌, ℕ, List, refl, sym, ap, ◌∙◌, Said, Ending, Cut, Ran, Lists, Process, CanSay, ComesTo, SaysTheSame}
 use Rattle.kpn_lang.specs.Prefix.{IsPrefix}
-use Rattle.kpn_lang.specs.Alone.{Process, CanSay, ComesTo}
 use Rattle.kpn_lang.proofs.Prefixes.{IsPrefix-trans, IsPrefix-same}
-use Rattle.kpn_step.specs.Residual.{SaysTheSame}
 
 -- the talk is only extended, and a run that was not cut stays the same
 pub record IsBelow (ran further : Ran) : Type 0 where

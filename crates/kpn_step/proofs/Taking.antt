@@ -1,15 +1,6 @@
 -- A read says the next item of its port, and takes it from there.
-use Rattle.std.proofs.Common.{◌≡◌, ℕ, ℤ, List, [], ◌∷◌, ◌++◌, length, take, drop, slice_get, Some, ap, subst, ◌∙◌, arith}
+use Rattle.kpn_step.proofs.Common.{◌≡◌, ℕ, ℤ, List, [], ◌∷◌, ◌++◌, length, take, drop, slice_get, Some, ap, subst, ◌∙◌, arith, Got, Statement, Lists, list_at, next_at, without_next, Stop, WantRead, Frame, StandsAt, IsGiven, Speaks}
 use Rattle.std.proofs.lemmas.List.{append-nil, drop_all, take_all}
-use Rattle.kpn_lang.specs.declared.talk.Said.TheVariants.{Got}
-use Rattle.kpn_lang.specs.Syntax.{Statement}
-use Rattle.kpn_lang.specs.Run.{Lists, list_at}
-use Rattle.kpn_lang.specs.Lists.{next_at, without_next}
-use Rattle.kpn_step.specs.declared.stop.Stop.{Stop}
-use Rattle.kpn_step.specs.declared.stop.Stop.TheVariants.{WantRead}
-use Rattle.kpn_step.specs.Frame.{Frame}
-use Rattle.kpn_step.specs.Stops.{StandsAt, IsGiven}
-use Rattle.kpn_step.specs.Walk.{Speaks}
 
 front : (items : List ℤ) (v : ℤ) → Some v ≡ slice_get items 0 → items ≡ v ∷ drop 1 items
 front [] v first = absurd cc

@@ -1,25 +1,10 @@
 -- Walks: steps, and between them the items got and put. After a walk the process can say and come to whatever the last
 -- frame can, after what the walk said. So the stop at the last frame decides how the process ends.
 use Rattle.std.proofs.Common.{◌≡◌, ◌≢◌, ℕ, ◌+◌, ◌≤◌, nat_eq, ℤ, IsTrue, List, [], ◌∷◌, ◌++◌, length, set, refl, sym, ap, ◌∙◌, arith, append_assoc, append-nil}
-use Rattle.kpn_lang.specs.declared.value.Fault.{Fault}
-use Rattle.kpn_lang.specs.declared.talk.Said.{Said}
-use Rattle.kpn_lang.specs.declared.talk.Said.TheVariants.{Got, Put}
-use Rattle.kpn_lang.specs.declared.talk.Ending.{Ending}
+use Rattle.kpn_step.proofs.Common.{Fault, Said, Got, Put, Ending, Statement, Read, Parts, IsProgram, Lists, list_at, ends, says, Process, CanSay, ComesTo, alone, AloneStop, Frame, start_frame, fits, step_of, Steps, residual, SaysTheSame, StandsAt, stop_at, EndsAs, GoesOnAs, Speaks, Walks, IsAloneOutcome, AloneGives}
 use Rattle.kpn_lang.specs.declared.talk.Ending.TheVariants as ending
-use Rattle.kpn_lang.specs.Syntax.{Statement, Read}
-use Rattle.kpn_lang.specs.Parts.{Parts, IsProgram}
-use Rattle.kpn_lang.specs.Run.{Lists, list_at, ends, says}
-use Rattle.kpn_lang.specs.Alone.{Process, CanSay, ComesTo, alone}
 use Rattle.kpn_step.specs.declared.stop.Stop.TheVariants as stop
-use Rattle.kpn_step.specs.declared.stop.AloneStop.{AloneStop}
 use Rattle.kpn_step.specs.declared.stop.AloneStop.TheVariants.{Done, Faulted, Starved, Paused}
-use Rattle.kpn_step.specs.Frame.{Frame, start_frame, fits}
-use Rattle.kpn_step.specs.Step.{step_of, Steps}
-use Rattle.kpn_step.specs.Residual.{residual, SaysTheSame}
-use Rattle.kpn_step.specs.Stops.{StandsAt, stop_at}
-use Rattle.kpn_step.specs.Ended.{EndsAs}
-use Rattle.kpn_step.specs.After.{GoesOnAs}
-use Rattle.kpn_step.specs.Walk.{Speaks, Walks, IsAloneOutcome, AloneGives}
 use Rattle.kpn_step.proofs.Sameness.{SaysTheSame-equal}
 use Rattle.kpn_step.proofs.StepCases.{Steps-append}
 use Rattle.kpn_step.proofs.Places.{fits-start, fits-passed_with, fits-steps}

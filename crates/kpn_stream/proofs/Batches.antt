@@ -1,24 +1,8 @@
 -- A source that is read on while its items are at hand.
 use Rattle.std.proofs.Common.{◌≡◌, ℕ, ◌+◌, ◌<◌, true, false, IfNone, ℤ, List, [], ◌∷◌, ◌++◌, IfSome, Option, Some, None, Result, Ok, refl, sym, ap, ◌∙◌, subst, append-nil, append_assoc, length-append, arith}
-use Rattle.std.specs.Prelude.{map}
-use Rattle.std.proofs.lemmas.Bool.{eq-eqb, false≢true, or_right}
-use Rattle.std.proofs.lemmas.List.{map-append}
-use Rattle.kpn_net.specs.Tables.{Tables}
-use Rattle.kpn_history.specs.declared.event.Event.{Event}
-use Rattle.kpn_history.specs.declared.event.Event.TheVariants.{Feed, Close}
-use Rattle.kpn_history.specs.Channels.{is_closed, is_close_of}
-use Rattle.kpn_history.proofs.AfterEvent.{is_closed-next}
-use Rattle.kpn_book.specs.Book.{Book}
-use Rattle.kpn_book.specs.Appending.{Happens}
-use Rattle.kpn_book.proofs.Happening.{happens_history}
-use Rattle.kpn_stream.specs.declared.faults.SourceFault.{SourceFault}
-use Rattle.kpn_stream.specs.declared.ending.StreamEnding.{StreamEnding}
-use Rattle.kpn_stream.specs.declared.reading.TheConstants.{MOST_AT_ONCE}
-use Rattle.kpn_stream.specs.Devices.{MayRead, MayReadItem}
-use Rattle.kpn_stream.specs.Ending.{AreTaken}
+use Rattle.kpn_stream.proofs.Common.{map, eq-eqb, false≢true, or_right, map-append, Tables, Event, Feed, Close, is_closed, is_close_of, is_closed-next, Book, Happens, happens_history, SourceFault, StreamEnding, MOST_AT_ONCE, MayRead, MayReadItem, AreTaken, ReadsSource, ReadsInTurn, none_yet_read, once_more_read, WasRead, IsUnfed}
 use Rattle.kpn_stream.proofs.Closes.{closed_on}
 use Rattle.kpn_stream.proofs.Handling.{reads_item}
-use Rattle.kpn_stream.specs.Streaming.{ReadsSource, ReadsInTurn, none_yet_read, once_more_read, WasRead, IsUnfed}
 
 -- the item of a device that may be asked may be read
 pub item_due : (t : Tables) (H : List Event) (c : ℕ) → MayRead t H c → MayReadItem t H c

@@ -1,18 +1,8 @@
 -- The sources are closed, one after the other.
 use Rattle.std.proofs.Common.{◌≡◌, ℕ, ◌+◌, Bool, true, false, List, [], ◌∷◌, ◌++◌, refl, sym, ap, ◌∙◌, subst, inl, inr, append-nil, append_assoc, arith}
-use Rattle.std.proofs.lemmas.Bool.{cases_eq, both_ways}
-use Rattle.kpn_net.specs.Tables.{Tables, channel_at, is_source}
-use Rattle.kpn_history.specs.declared.event.Event.{Event}
+use Rattle.kpn_stream.proofs.Common.{cases_eq, both_ways, Tables, channel_at, is_source, Event, is_closed, closed_in, Book, IsBook, Closes, closes_by, closed_next, HappensBesides, AreClosedBelow, is_no_close}
 use Rattle.kpn_history.specs.declared.event.Event.TheVariants as event
-use Rattle.kpn_history.specs.Channels.{is_closed}
-use Rattle.kpn_machine.specs.Machine.{closed_in}
-use Rattle.kpn_book.specs.Book.{Book}
-use Rattle.kpn_book.specs.Kept.{IsBook}
-use Rattle.kpn_book.specs.Refusals.{Closes, closes_by}
-use Rattle.kpn_book.proofs.Ends.{closed_next}
 use Rattle.kpn_book.proofs.Supplying.{closed_then}
-use Rattle.kpn_stream.specs.Streaming.{HappensBesides}
-use Rattle.kpn_stream.specs.Closing.{AreClosedBelow, is_no_close}
 use Rattle.kpn_stream.proofs.Going.{besides-refl, besides-trans, happens_besides}
 
 -- a closed source stays closed

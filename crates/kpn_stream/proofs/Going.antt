@@ -1,34 +1,17 @@
 -- What a stream keeps while it goes on.
 use Rattle.std.proofs.Common.{◌≡◌, ℕ, ◌+◌, ◌≤◌, ◌||◌, Bool, true, false, ℤ, List, [], ◌∷◌, ◌++◌, Option, Some, None, is_some, Result, Ok, Err, IfOk, OnErr, refl, sym, ap, ◌∙◌, subst, inl, inr, append-nil, append_assoc, arith}
-use Rattle.std.proofs.lemmas.Bool.{false≢true}
-use Rattle.kpn_net.specs.Tables.{Tables, channel_at, is_sink}
+use Rattle.kpn_stream.proofs.Common.{false≢true, Tables, channel_at, is_sink, Event, is_closed, is_close_of, HaveStopped, is_closed-next, Book, standing_at, IsGrowthOwed, Happens, Schedule, Limits, happens_tables, happens_history, SourceFault, SinkFault, StreamEnding, Halted, SourceFailed, SinkFailed, end_numbers, AreTaken, failed_sink, is_of_outside, is_elsewhere, is_no_growth, NoneIs, is_of_source, is_of_sink, Fed, by_others, by_look, ServedSince, none_yet, meanwhile, took, took_not, took_in_vain, flushed, flushed_not, left, left_not, had_enough, had_enough_not, IsFlushed, AreFlushed, AreFlushedLast, EndsFlushed, AreLookedAt, not_yet, once_more, Called, by_process, by_sinks, looked, read_at_once, waited_for, HappensBesides, MayEnd, MayHalt, MayEndWell, StepsWithinLimits, Serves, MayFail, ReadsSource, ReadsInTurn, none_yet_read, once_more_read, ReadsAtHand, not_read, is_read, StreamGoesOn}
 use Rattle.kpn_step.specs.declared.stop.Stop.{Stop}
 use Rattle.kpn_step.specs.Frame.{Frame}
-use Rattle.kpn_history.specs.declared.event.Event.{Event}
 use Rattle.kpn_history.specs.declared.event.Event.TheVariants as event
-use Rattle.kpn_history.specs.Channels.{is_closed, is_close_of}
-use Rattle.kpn_history.specs.Ends.{HaveStopped}
-use Rattle.kpn_history.proofs.AfterEvent.{is_closed-next}
 use Rattle.kpn_book.specs.declared.answers.Done.{Done}
 use Rattle.kpn_book.specs.declared.answers.Done.TheVariants as done
-use Rattle.kpn_book.specs.Book.{Book, standing_at}
-use Rattle.kpn_book.specs.Appending.{IsGrowthOwed, Happens}
 use Rattle.kpn_book.specs.Commits.{HasToWait, IsAnswer}
 use Rattle.kpn_book.specs.Stepping.{StepsNext}
 use Rattle.kpn_book.specs.InARow.{StepsInRow, no_step, one_step_more, ends_row, RunsInRow, RunsInVain}
 use Rattle.kpn_book.specs.GoingOn.{TurnsInAnyOrder, no_turn, another_order, steps_on, one_turn_more, RunsInAnyOrder, AnyOrderInVain}
-use Rattle.kpn_book.specs.Schedule.{Schedule}
-use Rattle.kpn_book.specs.declared.outcome.Limits.{Limits}
-use Rattle.kpn_book.proofs.Happening.{happens_tables, happens_history}
 use Rattle.kpn_book.proofs.Remembered.{much-trans, happens_much, steps_much}
 use Rattle.kpn_book.proofs.Stepped.{step_tables, step_history}
-use Rattle.kpn_stream.specs.declared.faults.SourceFault.{SourceFault}
-use Rattle.kpn_stream.specs.declared.faults.SinkFault.{SinkFault}
-use Rattle.kpn_stream.specs.declared.ending.StreamEnding.{StreamEnding}
-use Rattle.kpn_stream.specs.declared.ending.StreamEnding.TheVariants.{Halted, SourceFailed, SinkFailed}
-use Rattle.kpn_stream.specs.Ending.{end_numbers, AreTaken, failed_sink}
-use Rattle.kpn_stream.specs.Devices.{is_of_outside, is_elsewhere, is_no_growth, NoneIs, is_of_source, is_of_sink, Fed, by_others, by_look, ServedSince, none_yet, meanwhile, took, took_not, took_in_vain, flushed, flushed_not, left, left_not, had_enough, had_enough_not, IsFlushed, AreFlushed, AreFlushedLast, EndsFlushed, AreLookedAt, not_yet, once_more, Called, by_process, by_sinks, looked, read_at_once, waited_for}
-use Rattle.kpn_stream.specs.Streaming.{HappensBesides, MayEnd, MayHalt, MayEndWell, StepsWithinLimits, Serves, MayFail, ReadsSource, ReadsInTurn, none_yet_read, once_more_read, ReadsAtHand, not_read, is_read, StreamGoesOn}
 
 -- ---- events of other kinds
 

@@ -1,37 +1,16 @@
 -- What becomes of what a device answers.
 use Rattle.std.proofs.Common.{◌≡◌, ℕ, zero, suc, ◌+◌, ◌<◌, ◌≤◌, Bool, true, false, cond, ℤ, List, [], ◌∷◌, ◌++◌, length, slice_get, get_or, is_some, is_err, IfOk, OnErr, IfSome, IfNone, Option, Some, None, Result, Ok, Err, refl, sym, ap, ◌∙◌, subst, inl, inr, append-nil, append_assoc, arith}
-use Rattle.std.specs.List.{filter, range_with_len}
-use Rattle.std.proofs.lemmas.Bool.{cases_lt, false≢true}
-use Rattle.std.proofs.lemmas.List.{get_or_default}
+use Rattle.kpn_stream.proofs.Common.{filter, range_with_len, cases_lt, false≢true, get_or_default, Tables, channel_at, is_source, is_sink, channel_numbers, ChannelState, unread, next_item, Event, written_in, is_left, none_elsewhere, channel_in, Book, Happens, Takes, Leaves, leaves_by, Limits, happens_tables, happens_commits, happens_history, SourceFault, SinkFault, StreamEnding, SourceFailed, SinkFailed, is_elsewhere, is_no_growth, is_of_sink, HasGiven, MayRead, MayReadItem, MayTell, Fed, by_item, by_end, by_fault, by_no_memory, ServedSince, none_yet, took, took_not, took_in_vain, flushed, flushed_not, left, left_not, had_enough, had_enough_not, IsFlushed, AreFlushed, EndsFlushed, answered, end_numbers, AreLeft, IsSinkTaken, AreTaken, MayEndWell, IsHandled, IsLeaving, leaves, stays, Serves, IsUnfed, ReadsSource}
 use Rattle.std.proofs.lemmas.List.Elements.{filter-append}
 use Rattle.std.proofs.lemmas.List.FromFn.{length-range_with_len, get_or-range_with_len}
 use Rattle.kpn_book.proofs.Queueing.{range_next}
 use Rattle.kpn_net.specs.declared.tables.ChannelSpec.{ChannelSpec}
 use Rattle.kpn_net.specs.declared.tables.ChannelSpec.TheVariants as channel
-use Rattle.kpn_net.specs.Tables.{Tables, channel_at, is_source, is_sink}
-use Rattle.kpn_net.specs.Faults.{channel_numbers}
-use Rattle.kpn_chan.specs.Channel.{ChannelState, unread, next_item}
-use Rattle.kpn_history.specs.declared.event.Event.{Event}
 use Rattle.kpn_history.specs.declared.event.Event.TheVariants as event
-use Rattle.kpn_history.specs.Channels.{written_in, is_left}
-use Rattle.kpn_history.proofs.Journals.{none_elsewhere}
-use Rattle.kpn_machine.specs.Machine.{channel_in}
-use Rattle.kpn_book.specs.Book.{Book}
-use Rattle.kpn_book.specs.Appending.{Happens}
-use Rattle.kpn_book.specs.Refusals.{Takes, Leaves, leaves_by}
-use Rattle.kpn_book.specs.declared.outcome.Limits.{Limits}
-use Rattle.kpn_book.proofs.Happening.{happens_tables, happens_commits, happens_history}
 use Rattle.kpn_book.proofs.Parts.{kept_member}
 use Rattle.kpn_book.proofs.Agreeing.{number_below}
-use Rattle.kpn_stream.specs.declared.faults.SourceFault.{SourceFault}
 use Rattle.kpn_stream.specs.declared.faults.SourceFault.TheVariants as source_fault
-use Rattle.kpn_stream.specs.declared.faults.SinkFault.{SinkFault}
 use Rattle.kpn_stream.specs.declared.faults.SinkFault.TheVariants.{Gone, NoSample, Write, NoMemory}
-use Rattle.kpn_stream.specs.declared.ending.StreamEnding.{StreamEnding}
-use Rattle.kpn_stream.specs.declared.ending.StreamEnding.TheVariants.{SourceFailed, SinkFailed}
-use Rattle.kpn_stream.specs.Devices.{is_elsewhere, is_no_growth, is_of_sink, HasGiven, MayRead, MayReadItem, MayTell, Fed, by_item, by_end, by_fault, by_no_memory, ServedSince, none_yet, took, took_not, took_in_vain, flushed, flushed_not, left, left_not, had_enough, had_enough_not, IsFlushed, AreFlushed, EndsFlushed, answered}
-use Rattle.kpn_stream.specs.Ending.{end_numbers, AreLeft, IsSinkTaken, AreTaken}
-use Rattle.kpn_stream.specs.Streaming.{MayEndWell, IsHandled, IsLeaving, leaves, stays, Serves, IsUnfed, ReadsSource}
 use Rattle.kpn_stream.proofs.Going.{besides-refl, happens_besides, growth_none, fed_happens, served_happens, ends_flushed}
 use Rattle.kpn_stream.proofs.Moments.{happens_taken, left_then}
 

@@ -1,3 +1,4 @@
+pub mod Common
 pub mod Batches
 pub mod Closes
 pub mod Going

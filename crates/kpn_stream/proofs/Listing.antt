@@ -1,35 +1,19 @@
 -- From the answers of the devices to the lists of the sources and the sinks.
 use Rattle.std.proofs.Common.{◌≡◌, ◌≢◌, ℕ, ◌≤◌, Bool, true, false, cond, eqb, ◌||◌, ℤ, List, [], ◌∷◌, ◌++◌, length, length-append, Option, Some, None, Result, Ok, Err, refl, sym, ap, ◌∙◌, subst, inl, inr, append-nil, append_assoc, arith}
-use Rattle.std.proofs.lemmas.List.{same_from_push}
-use Rattle.std.proofs.lemmas.Bool.{cases_eq, eq-eqb, ne_eqb, eqb-true, both_ways, false≢true, or_right}
-use Rattle.kpn_lang.specs.Prefix.{IsPrefix}
-use Rattle.kpn_lang.proofs.Prefixes.{IsPrefix-refl, IsPrefix-trans, IsPrefix-from_rest, IsPrefix-same, same_from_prefix, prefix_of_push}
-use Rattle.kpn_net.specs.Tables.{Tables, channel_at, is_source, is_sink}
-use Rattle.kpn_net.specs.Faults.{IsNetwork}
+use Rattle.kpn_stream.proofs.Common.{same_from_push, cases_eq, eq-eqb, ne_eqb, eqb-true, both_ways, false≢true, or_right, IsPrefix, IsPrefix-refl, IsPrefix-trans, IsPrefix-from_rest, IsPrefix-same, same_from_prefix, prefix_of_push, Tables, channel_at, is_source, is_sink, IsNetwork, Event, written_in, written_on, read_in, read_on, unread_on, is_closed, is_close_of, is_left, is_closed-next, written_on-push, written_on-same, read_on-push, read_on-same, no_source, no_sink, none_elsewhere, reads_begin_writes, unread_length, SourceFault, SinkFault, is_of_source, is_of_sink, MayRead, MayReadItem, Fed, at_first, by_others, by_look, by_item, by_end, by_fault, by_no_memory, HasGiven, Served, none_yet, meanwhile, took, took_not, took_in_vain, flushed, flushed_not, left, left_not, had_enough, had_enough_not, IsSinkTaken, Gave, nothing_given, gave, told_end, gave_not, any_looked, another_gave, WasGiven, GivesList, GiveInTurn, Took, nothing_taken, took_item, took_none, another_took, any_flushed, WasTaken}
 use Rattle.kpn_net.specs.Process.{Family}
 use Rattle.kpn_net.specs.Iteration.{iterate, IsBelowLeast, IsLeast}
 use Rattle.kpn_net.proofs.Networks.{sink_there}
-use Rattle.kpn_history.specs.declared.event.Event.{Event}
 use Rattle.kpn_history.specs.declared.event.Event.TheVariants as event
-use Rattle.kpn_history.specs.Channels.{written_in, written_on, read_in, read_on, unread_on, is_closed, is_close_of, is_left}
 use Rattle.kpn_history.specs.Legal.{Legal, MayFeed}
 use Rattle.kpn_history.specs.Complete.{IsComplete, IsFedFrom}
-use Rattle.kpn_history.proofs.AfterEvent.{is_closed-next}
-use Rattle.kpn_history.proofs.Events.{written_on-push, written_on-same, read_on-push, read_on-same}
-use Rattle.kpn_history.proofs.Journals.{no_source, no_sink, none_elsewhere, reads_begin_writes}
 use Rattle.kpn_history.proofs.Kahn.{below_least}
 use Rattle.kpn_history.proofs.Complete.{least_if_complete}
 use Rattle.kpn_history.proofs.Legality.{Legal-before}
-use Rattle.kpn_history.proofs.OneMore.{unread_length}
 use Rattle.kpn_history.proofs.Ownership.{IsOwn-last}
 use Rattle.kpn_book.specs.Outcomes.{IsEnough}
-use Rattle.kpn_stream.specs.declared.faults.SourceFault.{SourceFault}
 use Rattle.kpn_stream.specs.declared.faults.SourceFault.TheVariants as source_fault
-use Rattle.kpn_stream.specs.declared.faults.SinkFault.{SinkFault}
 use Rattle.kpn_stream.specs.declared.faults.SinkFault.TheVariants as sink_fault
-use Rattle.kpn_stream.specs.Devices.{is_of_source, is_of_sink, MayRead, MayReadItem, Fed, at_first, by_others, by_look, by_item, by_end, by_fault, by_no_memory, HasGiven, Served, none_yet, meanwhile, took, took_not, took_in_vain, flushed, flushed_not, left, left_not, had_enough, had_enough_not}
-use Rattle.kpn_stream.specs.Ending.{IsSinkTaken}
-use Rattle.kpn_stream.specs.Lists.{Gave, nothing_given, gave, told_end, gave_not, any_looked, another_gave, WasGiven, GivesList, GiveInTurn, Took, nothing_taken, took_item, took_none, another_took, any_flushed, WasTaken}
 use Rattle.kpn_stream.proofs.Going.{closed_same}
 
 -- ---- what events leave as it is

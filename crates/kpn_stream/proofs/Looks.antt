@@ -1,8 +1,7 @@
 -- Looks at the devices of the sources, one after the other.
-use Rattle.std.proofs.Common.{◌≡◌, ℕ, IfSome, Option, Some, None}
+use Rattle.kpn_stream.proofs.Common.{◌≡◌, ℕ, IfSome, Option, Some, None, AreLookedAt, not_yet, once_more}
 use Rattle.std.specs.Option.{option_or}
 use Rattle.kpn_stream.specs.declared.devices.Readiness.TheVariants.{AtHand, NotYet, Unknown}
-use Rattle.kpn_stream.specs.Devices.{AreLookedAt, not_yet, once_more}
 
 pub looked-trans : {S : Type 0} (looks : S → ℕ → S → Type 0) (r s : S) → AreLookedAt looks r s → {u : S}
     → AreLookedAt looks s u → AreLookedAt looks r u

@@ -1,34 +1,17 @@
 -- What holds of a book at one moment: who waits, whether all have stopped, and what lies on the sinks.
 use Rattle.std.proofs.Common.{◌≡◌, ℕ, ◌<◌, Bool, true, false, not, cond, ℤ, List, [], ◌∷◌, ◌++◌, length, drop, slice_get, Option, Some, None, is_some, refl, sym, ap, ◌∙◌, subst, inl, inr, append-nil, append_assoc, length-append, arith}
-use Rattle.std.proofs.lemmas.Bool.{eqb-true, eq-eqb, false≢true, or_left, or_right}
-use Rattle.kpn_net.specs.Tables.{Tables, channel_at, is_sink}
+use Rattle.kpn_stream.proofs.Common.{eqb-true, eq-eqb, false≢true, or_left, or_right, Tables, channel_at, is_sink, ChannelState, unread, next_item, state_at, Event, written_in, read_in, read_on, unread_on, is_left, is_leave_of, lives, HaveStopped, is_left-next, written_on-same, read_on-push, unread_length, unread_length-push, channel_in, Book, IsBook, IsGrowthOwed, Happens, AddNothing, happens_history, happens_written, happens_read, IsAwaited, AreLeft, IsSinkTaken, AreTaken}
 use Rattle.kpn_net.proofs.Networks.{reader_of-sink, sink_there}
-use Rattle.kpn_chan.specs.Channel.{ChannelState, unread, next_item}
-use Rattle.kpn_book.specs.Schedule.{state_at}
 use Rattle.kpn_book.proofs.Tallies.{not_counted}
-use Rattle.kpn_history.specs.declared.event.Event.{Event}
 use Rattle.kpn_history.specs.declared.event.Event.TheVariants as event
 use Rattle.kpn_history.specs.declared.state.State.{State}
 use Rattle.kpn_history.specs.declared.state.State.TheVariants.{Ready, Held}
 use Rattle.kpn_history.specs.declared.state.Counts.{Counts}
-use Rattle.kpn_history.specs.Channels.{written_in, read_in, read_on, unread_on, is_left, is_leave_of, lives}
-use Rattle.kpn_history.specs.Ends.{HaveStopped}
 use Rattle.kpn_history.specs.Views.{is_ready, is_held, is_stopped, AreCounts}
-use Rattle.kpn_history.proofs.AfterEvent.{is_left-next}
-use Rattle.kpn_history.proofs.Events.{written_on-same, read_on-push}
-use Rattle.kpn_history.proofs.OneMore.{unread_length, unread_length-push}
 use Rattle.kpn_history.proofs.States.{stopped_state}
-use Rattle.kpn_machine.specs.Machine.{channel_in}
 use Rattle.kpn_machine.specs.Woken.{waiting_reader}
 use Rattle.kpn_machine.proofs.Waking.{who_reads}
-use Rattle.kpn_book.specs.Book.{Book}
-use Rattle.kpn_book.specs.Kept.{IsBook}
-use Rattle.kpn_book.specs.Appending.{IsGrowthOwed, Happens}
 use Rattle.kpn_book.proofs.Standing.{states_now}
-use Rattle.kpn_book.proofs.Ends.{AddNothing}
-use Rattle.kpn_book.proofs.Happening.{happens_history, happens_written, happens_read}
-use Rattle.kpn_stream.specs.Devices.{IsAwaited}
-use Rattle.kpn_stream.specs.Ending.{AreLeft, IsSinkTaken, AreTaken}
 
 -- ---- who waits
 

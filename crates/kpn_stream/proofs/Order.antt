@@ -1,17 +1,8 @@
 -- What the order of all calls says of a source that never has anything at hand: it is fed and closed only where each
 -- process has ended or waits.
 use Rattle.std.proofs.Common.{◌≡◌, ℕ, Bool, false, ℤ, List, [], ◌∷◌, ◌++◌, Option, Some, None, Result, Ok, Err, sym, subst, inl, inr, append-nil, append_assoc}
-use Rattle.std.proofs.lemmas.Bool.{false≢true}
-use Rattle.std.proofs.lemmas.List.{same_from_push}
-use Rattle.kpn_lang.specs.Prefix.{IsPrefix}
-use Rattle.kpn_lang.proofs.Prefixes.{prefix_of_push}
-use Rattle.kpn_net.specs.Tables.{Tables}
-use Rattle.kpn_history.specs.declared.event.Event.{Event}
+use Rattle.kpn_stream.proofs.Common.{false≢true, same_from_push, IsPrefix, prefix_of_push, Tables, Event, HaveStopped, SourceFault, SinkFault, is_of_source, is_elsewhere, is_no_growth, NoneIs, IsFlushed, AreFlushed, answered, IsAnswered, Called, at_start, by_process, by_sinks, looked, read_at_once, waited_for}
 use Rattle.kpn_history.specs.declared.event.Event.TheVariants as event
-use Rattle.kpn_history.specs.Ends.{HaveStopped}
-use Rattle.kpn_stream.specs.declared.faults.SourceFault.{SourceFault}
-use Rattle.kpn_stream.specs.declared.faults.SinkFault.{SinkFault}
-use Rattle.kpn_stream.specs.Devices.{is_of_source, is_elsewhere, is_no_growth, NoneIs, IsFlushed, AreFlushed, answered, IsAnswered, Called, at_start, by_process, by_sinks, looked, read_at_once, waited_for}
 use Rattle.kpn_stream.proofs.Going.{elsewhere_no_source, outside_no_source, growth_no_source}
 
 -- what an event of a source needs

@@ -1,18 +1,10 @@
 -- Worked rows: what the definitions say of a source whose device is a list in memory, and of a process that copies it.
-use Rattle.std.proofs.Common.{◌≡◌, ◌≢◌, ℕ, false, cond, eqb, ℤ, pos, List, [], ◌∷◌, Option, Some, None, Result, Ok, Err, refl, sym, ap, ◌∙◌, subst, inl, inr, arith}
+use Rattle.kpn_stream.proofs.Common.{◌≡◌, ◌≢◌, ℕ, false, cond, eqb, ℤ, pos, List, [], ◌∷◌, Option, Some, None, Result, Ok, Err, refl, sym, ap, ◌∙◌, subst, inl, inr, arith, ne_eqb, Tables, Event, WaitEmpty, Feed, Close, SourceFault, SinkFault, MayRead, IsAwaited, IsStuckUnderAll, Fed, at_first, by_others, by_item, by_end, Called, GivesList, GiveInTurn}
 use Rattle.std.specs.Prelude.{map, ◌++◌, ◌⊎◌}
-use Rattle.std.proofs.lemmas.Bool.{ne_eqb}
 use Rattle.kpn_net.specs.declared.tables.ChannelSpec.TheVariants as channel
 use Rattle.kpn_net.specs.declared.tables.Policy.TheVariants.{Cycles, All}
 use Rattle.kpn_net.specs.declared.tables.Growth.TheVariants.{One}
 use Rattle.kpn_net.specs.declared.wait.Wait.TheVariants.{Nobody, Empty}
-use Rattle.kpn_net.specs.Tables.{Tables}
-use Rattle.kpn_history.specs.declared.event.Event.{Event}
-use Rattle.kpn_history.specs.declared.event.Event.TheVariants.{WaitEmpty, Feed, Close}
-use Rattle.kpn_stream.specs.declared.faults.SourceFault.{SourceFault}
-use Rattle.kpn_stream.specs.declared.faults.SinkFault.{SinkFault}
-use Rattle.kpn_stream.specs.Devices.{MayRead, IsAwaited, IsStuckUnderAll, Fed, at_first, by_others, by_item, by_end, Called}
-use Rattle.kpn_stream.specs.Lists.{GivesList, GiveInTurn}
 use Rattle.kpn_stream.proofs.Batches.{item_due}
 use Rattle.kpn_stream.proofs.Listing.{fed_when_due, gives_ahead}
 use Rattle.kpn_stream.proofs.Order.{was_at_rest}

@@ -1,21 +1,8 @@
 -- The looks at a stream go on.
 use Rattle.std.proofs.Common.{◌≡◌, ℕ, Bool, false, ℤ, List, ◌++◌, Option, Some, None, is_some, Result, Ok, Err, inl, inr, refl, sym, ap, ◌∙◌, subst, append_assoc}
-use Rattle.std.proofs.lemmas.Bool.{false≢true}
-use Rattle.kpn_net.specs.Tables.{is_sink}
-use Rattle.kpn_history.specs.declared.event.Event.{Event}
+use Rattle.kpn_stream.proofs.Common.{false≢true, is_sink, Event, Book, IsBook, Limits, SourceFault, SinkFault, StreamEnding, Halted, end_numbers, AreTaken, is_halted, is_of_source, is_elsewhere, is_no_growth, NoneIs, AreFlushed, answered, IsAnswered, none_yet, HappensBesides, IsStepless, MayEnd, MayFail, Serves, ServesOrHalts, serves_them, is_over, ReadsSource, ReadsInTurn, none_yet_read, once_more_read, ReadsAtHand, not_read, is_read, StreamGoesOn, StepsWithinLimits, Watched, by_steps, by_reads, seen, Watches}
 use Rattle.kpn_history.specs.declared.event.Event.TheVariants as event
-use Rattle.kpn_book.specs.Book.{Book}
-use Rattle.kpn_book.specs.Kept.{IsBook}
-use Rattle.kpn_book.specs.declared.outcome.Limits.{Limits}
-use Rattle.kpn_stream.specs.declared.faults.SourceFault.{SourceFault}
-use Rattle.kpn_stream.specs.declared.faults.SinkFault.{SinkFault}
-use Rattle.kpn_stream.specs.declared.ending.StreamEnding.{StreamEnding}
-use Rattle.kpn_stream.specs.declared.ending.StreamEnding.TheVariants.{Halted}
-use Rattle.kpn_stream.specs.Ending.{end_numbers, AreTaken, is_halted}
 use Rattle.kpn_history.specs.Talks.{is_of_process}
-use Rattle.kpn_stream.specs.Devices.{is_of_source, is_elsewhere, is_no_growth, NoneIs, AreFlushed, answered, IsAnswered, none_yet}
-use Rattle.kpn_stream.specs.Streaming.{HappensBesides, IsStepless, MayEnd, MayFail, Serves, ServesOrHalts, serves_them, is_over, ReadsSource, ReadsInTurn, none_yet_read, once_more_read, ReadsAtHand, not_read, is_read, StreamGoesOn, StepsWithinLimits}
-use Rattle.kpn_stream.specs.Watching.{Watched, by_steps, by_reads, seen, Watches}
 use Rattle.kpn_stream.proofs.Going.{none_of, goes_on-trans, taken_then, serves_on, none_join, none_weaker, besides-refl, besides-trans, besides_sources, besides_elsewhere, serves_goes_on}
 
 -- ---- no process makes a step

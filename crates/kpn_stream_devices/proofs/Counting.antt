@@ -1,23 +1,8 @@
 -- The lines or samples of one input are counted by the calls for its source.
 use Rattle.std.proofs.Common.{◌≡◌, ◌≢◌, ℕ, suc, ◌+◌, true, false, ℤ, List, [], ◌∷◌, ◌++◌, length, length-append, get_or, Option, Some, None, Result, Ok, Err, refl, sym, ap, ◌∙◌, subst, inl, inr, arith}
-use Rattle.std.proofs.lemmas.Bool.{cases_eq, false≢true}
-use Rattle.kpn_net.specs.Tables.{Tables, channel_at, is_source}
-use Rattle.kpn_net.specs.Faults.{IsNetwork}
-use Rattle.kpn_history.specs.declared.event.Event.{Event}
+use Rattle.kpn_stream_devices.proofs.Common.{cases_eq, false≢true, Tables, channel_at, is_source, IsNetwork, Event, written_in, written_on, Legal, written_on-push, written_on-same, no_source, none_elsewhere, Legal-before, item_here, IsOwn-last, SourceFault, is_of_source, Fed, at_first, by_others, by_look, by_item, by_end, by_fault, by_no_memory, SourceInput, SourceInputs, Window, CountsUsed, fresh, one_after, used_after}
 use Rattle.kpn_history.specs.declared.event.Event.TheVariants as event
-use Rattle.kpn_history.specs.Channels.{written_in, written_on}
-use Rattle.kpn_history.specs.Legal.{Legal}
-use Rattle.kpn_history.proofs.Events.{written_on-push, written_on-same}
-use Rattle.kpn_history.proofs.Journals.{no_source, none_elsewhere}
-use Rattle.kpn_history.proofs.Legality.{Legal-before}
-use Rattle.kpn_history.proofs.OneMore.{item_here}
-use Rattle.kpn_history.proofs.Ownership.{IsOwn-last}
-use Rattle.kpn_stream.specs.declared.faults.SourceFault.{SourceFault}
 use Rattle.kpn_stream.specs.declared.faults.SourceFault.TheVariants.{Read, BadItem, CutSample, BadHead, NoMemory}
-use Rattle.kpn_stream.specs.Devices.{is_of_source, Fed, at_first, by_others, by_look, by_item, by_end, by_fault, by_no_memory}
-use Rattle.kpn_stream_devices.specs.declared.inputs.SourceInput.{SourceInput}
-use Rattle.kpn_stream_devices.specs.declared.inputs.SourceInputs.{SourceInputs}
-use Rattle.kpn_stream_devices.specs.Window.{Window, CountsUsed, fresh, one_after, used_after}
 use Rattle.kpn_stream_devices.specs.SourceInputs.{InputsGive, InputsLook, by_input, by_none, at_input, at_none, input_of}
 use Rattle.kpn_stream_devices.proofs.Firsts.{IsFirst, first_found, first_stays, found_mine, found_other, found_none}
 use Rattle.kpn_stream_devices.proofs.Firsts.{found_within, was_here, stays_here}

@@ -2,33 +2,17 @@
 use Rattle.std.specs.Vec.{with_item}
 use Rattle.std.specs.Global.{Vec}
 use Rattle.std.specs.Prelude.{slice_set}
-use Rattle.std.proofs.Math.Nat.{ℕ_set}
-use Rattle.std.proofs.lemmas.List.{set-get_or}
+use Rattle.kpn_stream_devices.proofs.Common.{ℕ_set, set-get_or, Keeps, Consumes, Appends, prepend_known, append_known, Keeps-trans, Keeps-refl, Appends-kept, append_known-grown, true≢false, OutputFormat, SourceFault, SinkFault, HasText, item_bytes, text_of, written_item, Window, FormatGives, WavGives, CountsUsed, HeadNeedsMore, IfKnown, WindowGives, IsEndKnown, NeedsMore, WindowTells, left_of, Head, Open, Bad, Whole, head_at, SourceInputs, SourceInput, device_left, most_read, HasReadOn, InputGives, IsInputAsked, IsSparing, HaveMoved, FailsToRead, ReadsOnly, WaitsForDevice, kept_fault, HandsOn, KeepsFew, TakesItem}
 use Rattle.std.proofs.Common.{◌≡◌, ℕ, ◌≤◌, false, List, [], ◌++◌, length, Option, Some, None, Result, Ok, Err, refl, sym, ap, ◌∙◌, subst, arith, append_assoc, inl, inr, IfSome, get_or}
 use Rattle.std.specs.Prelude.{ℤ}
-use Rattle.std.specs.Io.KnownBytes.{Keeps, Consumes, Appends, prepend_known, append_known}
-use Rattle.std.proofs.KnownBytes.{Keeps-trans, Keeps-refl, Appends-kept, append_known-grown}
-use Rattle.std.proofs.lemmas.Bool.{true≢false}
 use Rattle.kpn_stream_devices.specs.declared.formats.ItemFormat.{ItemFormat}
 use Rattle.kpn_stream_devices.specs.declared.formats.ItemFormat.TheVariants.{Lines, Samples, Wav}
-use Rattle.kpn_stream_devices.specs.declared.formats.OutputFormat.{OutputFormat}
-use Rattle.kpn_stream.specs.declared.faults.SourceFault.{SourceFault}
 use Rattle.kpn_stream.specs.declared.faults.SourceFault.TheVariants.{Read, NoMemory}
-use Rattle.kpn_stream.specs.declared.faults.SinkFault.{SinkFault}
 use Rattle.kpn_stream.specs.declared.faults.SinkFault.TheVariants.{Gone, NoSample, Write}
 use Rattle.kpn_stream.specs.declared.faults.SinkFault.TheVariants as sink_fault
-use Rattle.kpn_stream_devices.specs.Formats.{HasText, item_bytes, text_of, written_item}
-use Rattle.kpn_stream_devices.specs.Window.{Window, FormatGives, WavGives, CountsUsed, HeadNeedsMore, IfKnown, WindowGives, IsEndKnown, NeedsMore, WindowTells, left_of}
 use Rattle.kpn_stream_devices.specs.declared.head.Wav.{Wav as Left}
-use Rattle.kpn_stream_devices.specs.declared.head.Head.{Head}
-use Rattle.kpn_stream_devices.specs.declared.head.Head.TheVariants.{Open, Bad, Whole}
-use Rattle.kpn_stream_devices.specs.Head.{head_at}
-use Rattle.kpn_stream_devices.specs.declared.inputs.SourceInputs.{SourceInputs}
-use Rattle.kpn_stream_devices.specs.declared.inputs.SourceInput.{SourceInput}
-use Rattle.kpn_stream_devices.specs.SourceInputs.{device_left, most_read, HasReadOn, InputGives, IsInputAsked, IsSparing, HaveMoved, FailsToRead, ReadsOnly, WaitsForDevice, kept_fault}
 use Rattle.kpn_stream_devices.specs.declared.inputs.Failed.{Failed}
 use Rattle.kpn_stream_devices.specs.declared.inputs.Failed.TheVariants as look_fault
-use Rattle.kpn_stream_devices.specs.SinkOutputs.{HandsOn, KeepsFew, TakesItem}
 
 -- ---- inputs
 

@@ -1,11 +1,6 @@
 -- The first element of a list for a channel, when one element is changed after the other.
 use Rattle.std.proofs.Common.{◌≡◌, ◌≢◌, ℕ, ◌<◌, ◌≤◌, Bool, false, nat_eq, List, [], ◌∷◌, length, get_or, slice_set, Some, None, sym, ap, ◌∙◌, subst, inl, inr, arith}
-use Rattle.std.specs.List.{position, position_or_len}
-use Rattle.std.proofs.lemmas.Bool.{cases_eq, cases_lt, eq-eqb, eqb-true, false≢true}
-use Rattle.std.proofs.lemmas.Bool.Decides.{nat_tests}
-use Rattle.std.proofs.lemmas.List.{length-set, get_or_default, get_or-set_same, get_or-set_other}
-use Rattle.std.proofs.lemmas.List.Quantifiers.{position-Some}
-use Rattle.std.proofs.lemmas.List.Sums.{fails_before_first}
+use Rattle.kpn_stream_devices.proofs.Common.{position, position_or_len, cases_eq, cases_lt, eq-eqb, eqb-true, false≢true, nat_tests, length-set, get_or_default, get_or-set_same, get_or-set_other, position-Some, fails_before_first}
 
 module _ {X : Type 0} (P : X → Type 0) (xs : List X) (j : ℕ) (o w : X) (below : j < length xs) (at : get_or xs j o ≡ o)
     (stays : P o → P w) where

@@ -1,25 +1,11 @@
 -- The last calls of a stream flush its sinks: what the output of one was put has gone out then.
 use Rattle.std.proofs.Common.{◌≡◌, ◌≢◌, ◌⊎◌, ℕ, zero, suc, ◌||◌, Bool, true, false, List, [], ◌∷◌, ◌++◌, get_or, flat_map, Contains, arith, Option, Some, None, Result, Ok, Err, refl, sym, ap, ◌∙◌, subst, inl, inr, append-nil}
-use Rattle.std.specs.Io.KnownBytes.{Appends, append_known}
-use Rattle.std.specs.List.{list_any}
-use Rattle.std.proofs.lemmas.Bool.{cases_eq, eq-eqb, false≢true}
+use Rattle.kpn_stream_devices.proofs.Common.{Appends, append_known, list_any, cases_eq, eq-eqb, false≢true, flat_map-append, Tables, channel_at, is_sink, IsNetwork, Event, read_in, read_on, is_left, is_leave_of, SinkFault, is_no_growth, NoneIs, IsFlushed, AreFlushed, AreFlushedLast, Legal, SinkOutput, SinkOutputs, HasOwnDevice, IsServed, text_of_all, device_holds, output_of, was_put}
 use Rattle.std.proofs.lemmas.List.Folds.{list_any-append}
-use Rattle.std.proofs.lemmas.Grind.{flat_map-append}
-use Rattle.kpn_net.specs.Tables.{Tables, channel_at, is_sink}
-use Rattle.kpn_net.specs.Faults.{IsNetwork}
-use Rattle.kpn_history.specs.declared.event.Event.{Event}
 use Rattle.kpn_history.specs.declared.event.Event.TheVariants as event
-use Rattle.kpn_history.specs.Channels.{read_in, read_on, is_left, is_leave_of}
-use Rattle.kpn_stream.specs.declared.faults.SinkFault.{SinkFault}
 use Rattle.kpn_stream.specs.declared.faults.SinkFault.TheVariants as sink_fault
-use Rattle.kpn_stream.specs.Devices.{is_no_growth, NoneIs, IsFlushed, AreFlushed, AreFlushedLast}
 use Rattle.kpn_stream.specs.Ending.{end_numbers}
-use Rattle.kpn_history.specs.Legal.{Legal}
-use Rattle.kpn_stream_devices.specs.declared.outputs.SinkOutput.{SinkOutput}
-use Rattle.kpn_stream_devices.specs.declared.outputs.SinkOutputs.{SinkOutputs}
-use Rattle.kpn_stream_devices.specs.Out.{HasOwnDevice, IsServed, text_of_all}
 use Rattle.kpn_stream_devices.specs.SinkOutputs.{OutputsTake, OutputsFlush, Flushes, by_output, by_none}
-use Rattle.kpn_stream_devices.specs.SinkOutputs.{device_holds, output_of, was_put}
 use Rattle.kpn_stream_devices.proofs.Firsts.{found_mine, found_other, found_none, found_within, was_here, stays_here}
 use Rattle.kpn_stream_devices.proofs.Putting.{channel_of, IsMine, IsPut, by_flush, by_other, all_put}
 

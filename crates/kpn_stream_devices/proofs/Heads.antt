@@ -1,14 +1,8 @@
 -- What follows the first bytes of an input changes nothing of its head, once they tell it.
 use Rattle.std.proofs.Common.{◌≡◌, ℕ, zero, suc, ◌+◌, ◌-◌, ◌<◌, ◌≤◌, false, nat_lt, nat_eq, List, ◌++◌, length, drop, length-append, length-drop, Option, Some, None, Result, Ok, Err, refl, sym, ap, ◌∙◌, subst, inl, inr, arith}
 use Rattle.std.specs.Prelude.{Bool, true, if◌then◌else◌, codes}
-use Rattle.std.proofs.lemmas.Bool.{cases_lt, lt-ltb, le-ltb}
-use Rattle.std.proofs.lemmas.List.{drop-append-le}
-use Rattle.byteorder.specs.Endian.{little_number}
-use Rattle.byteorder.specs.Numbers.{little_from-append}
-use Rattle.kpn_stream_devices.specs.declared.formats.SampleFormat.{SampleFormat}
+use Rattle.kpn_stream_devices.proofs.Common.{cases_lt, lt-ltb, le-ltb, drop-append-le, little_number, little_from-append, SampleFormat, Head, Open, Bad, Whole}
 use Rattle.kpn_stream_devices.specs.declared.head.Wav.{Wav}
-use Rattle.kpn_stream_devices.specs.declared.head.Head.{Head}
-use Rattle.kpn_stream_devices.specs.declared.head.Head.TheVariants.{Open, Bad, Whole}
 use Rattle.kpn_stream_devices.specs.declared.head.Chunk.{Chunk}
 use Rattle.kpn_stream_devices.specs.declared.head.Chunk.TheVariants.{Told, Next}
 use Rattle.kpn_stream_devices.specs.Head.{most_bytes, most_chunks, chunk_name, number_at, is_kind, is_extended, is_whole_by, is_whole, sample_of, framed, of_frame, described, next_chunk, told_by, format_of, data_of, chunk_of, chunk_at, chunks_from, chunks_after, head_of, head_at}

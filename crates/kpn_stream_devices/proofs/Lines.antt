@@ -1,17 +1,10 @@
 -- What the unused bytes of a window tell of the first line, whatever bytes come after them.
 use Rattle.std.proofs.Common.{◌≡◌, ℕ, ◌+◌, ◌-◌, ◌<◌, ◌≤◌, Bool, true, false, cond, eqb, ltb, List, [], ◌∷◌, ◌++◌, length, take, drop, length-take, length-append, Option, Some, None, refl, sym, ap, ◌∙◌, arith, append_assoc, append-nil}
 use Rattle.std.specs.Prelude.{ℤ, ◌==◌, slice_index}
-use Rattle.std.specs.List.{All, position, position_or_len}
-use Rattle.std.specs.Str.Lines.{lines, strip_carriage_return}
+use Rattle.kpn_stream_devices.proofs.Common.{All, position, position_or_len, lines, strip_carriage_return, position-Some, fails_before_first, eqb-true, ltb-true, nat_tests, common_steps, SpellsItem}
 use Rattle.std.proofs.Math.Seq.{drop-length}
 use Rattle.std.proofs.lemmas.List.{get_or_append_left, length-drop}
-use Rattle.std.proofs.lemmas.List.Quantifiers.{position-Some}
-use Rattle.std.proofs.lemmas.List.Sums.{fails_before_first}
-use Rattle.std.proofs.lemmas.Bool.{eqb-true, ltb-true}
-use Rattle.std.proofs.lemmas.Bool.Decides.{nat_tests}
-use Rattle.std.proofs.lemmas.Grind.{common_steps}
 use Rattle.std.specs.Str.Parse.{starts_with_minus}
-use Rattle.kpn_text_items.specs.ItemLine.{SpellsItem}
 use Rattle.kpn_text_items.proofs.LineLemmas.{lines-feed, lines-found, lines-none, split-at_feed}
 
 -- a line feed

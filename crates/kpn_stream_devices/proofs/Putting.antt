@@ -1,33 +1,11 @@
 -- What the output of one sink was put, by the calls for it and for others.
 use Rattle.std.proofs.Common.{◌≡◌, ◌≢◌, ℕ, ◌<◌, Bool, true, false, ◌||◌, ℤ, List, [], ◌∷◌, ◌++◌, length, get_or, slice_set, IsSome, Option, Some, None, Result, Ok, Err, refl, sym, ap, ◌∙◌, subst, inl, inr, arith}
-use Rattle.std.specs.Io.KnownBytes.{Appends, Keeps, append_known}
-use Rattle.std.proofs.KnownBytes.{Appends-nil, Appends-trans, Appends-kept}
-use Rattle.std.proofs.lemmas.Bool.{cases_eq, eq-eqb, false≢true}
-use Rattle.std.proofs.lemmas.List.{length-set}
-use Rattle.kpn_net.specs.Tables.{Tables, channel_at, is_sink}
-use Rattle.kpn_net.specs.Faults.{IsNetwork}
-use Rattle.kpn_history.specs.declared.event.Event.{Event}
+use Rattle.kpn_stream_devices.proofs.Common.{Appends, Keeps, append_known, Appends-nil, Appends-trans, Appends-kept, cases_eq, eq-eqb, false≢true, length-set, Tables, channel_at, is_sink, IsNetwork, Event, read_in, read_on, Legal, flat_map-push, read_on-push, read_on-same, no_sink, none_elsewhere, Legal-before, item_here, IsOwn-last, SinkFault, is_of_sink, Served, none_yet, meanwhile, took, took_not, flushed, flushed_not, took_in_vain, left, left_not, had_enough, had_enough_not, OutputFormat, SinkOutput, SinkOutputs, text_of, HasOwnDevice, IsServed, text_of_all, OutputRel, OutputsDo, OutputsTake, OutputsFlush, Takes, Flushes}
 use Rattle.kpn_history.specs.declared.event.Event.TheVariants as event
-use Rattle.kpn_history.specs.Channels.{read_in, read_on}
-use Rattle.kpn_history.specs.Legal.{Legal}
 use Rattle.kpn_history.proofs.AfterEvent.{is_left-next}
-use Rattle.kpn_history.proofs.Events.{flat_map-push, read_on-push, read_on-same}
-use Rattle.kpn_history.proofs.Journals.{no_sink, none_elsewhere}
-use Rattle.kpn_history.proofs.Legality.{Legal-before}
-use Rattle.kpn_history.proofs.OneMore.{item_here}
-use Rattle.kpn_history.proofs.Ownership.{IsOwn-last}
-use Rattle.kpn_stream.specs.declared.faults.SinkFault.{SinkFault}
 use Rattle.kpn_stream.specs.declared.faults.SinkFault.TheVariants as sink_fault
-use Rattle.kpn_stream.specs.Devices.{is_of_sink, Served, none_yet, meanwhile, took, took_not, flushed, flushed_not}
-use Rattle.kpn_stream.specs.Devices.{took_in_vain, left, left_not, had_enough, had_enough_not}
 use Rattle.kpn_stream_devices.proofs.Firsts.{IsFirst, holds_still, first_found, first_stays, found_mine, found_other}
 use Rattle.kpn_stream_devices.proofs.Firsts.{found_none, found_within, was_here, stays_here}
-use Rattle.kpn_stream_devices.specs.declared.formats.OutputFormat.{OutputFormat}
-use Rattle.kpn_stream_devices.specs.declared.outputs.SinkOutput.{SinkOutput}
-use Rattle.kpn_stream_devices.specs.declared.outputs.SinkOutputs.{SinkOutputs}
-use Rattle.kpn_stream_devices.specs.Formats.{text_of}
-use Rattle.kpn_stream_devices.specs.Out.{HasOwnDevice, IsServed, text_of_all}
-use Rattle.kpn_stream_devices.specs.SinkOutputs.{OutputRel, OutputsDo, OutputsTake, OutputsFlush, Takes, Flushes}
 use Rattle.kpn_stream_devices.specs.SinkOutputs.{WritesOnly, by_output, by_none, device_holds, output_of, was_put}
 
 abbrev pub channel_of : {G : Type 0} → SinkOutput G → ℕ

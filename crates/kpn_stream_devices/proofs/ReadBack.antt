@@ -1,15 +1,7 @@
 -- A float that was written for an item that fits is read again.
 use Rattle.std.proofs.Common.{◌≡◌, ℕ, suc, ◌+◌, ◌*◌, ◌/◌, ◌%◌, ◌-◌, ◌^◌, ◌<◌, ◌≤◌, false, true, nat_eq, nat_lt, nat_le, refl, sym, ap, ◌∙◌, subst, inl, inr, arith, max, min}
 use Rattle.std.specs.Prelude.{unsigned_abs, Bool, Option, Some, None, ℤ, pos, negsuc, neg_ℤ, int_lt, IsSome, if◌then◌else◌}
-use Rattle.std.specs.Int.Count.{count_leading_zeros}
-use Rattle.std.proofs.Math.Dec.{leb→le}
-use Rattle.std.proofs.lemmas.Bool.{cases_lt, cases_eq, lt-ltb, eq-eqb}
-use Rattle.std.proofs.lemmas.Nat.{pow-add, le-div, pow_pos}
-use Rattle.std.proofs.Math.Nat.{pow-le-pow_right, mul-le-mul, mul_assoc, div-le_self}
-use Rattle.kpn_stream_devices.specs.Floats.{rounded, significand_of, size_of, with_sign, float_item, size_bits, float_bits}
-use Rattle.kpn_stream_devices.specs.Formats.{FormatHolds}
-use Rattle.kpn_stream_devices.specs.declared.formats.SampleFormat.TheVariants.{F32}
-use Rattle.kpn_stream_devices.specs.declared.formats.ItemFormat.TheVariants.{Samples}
+use Rattle.kpn_stream_devices.proofs.Common.{count_leading_zeros, leb→le, cases_lt, cases_eq, lt-ltb, eq-eqb, pow-add, le-div, pow_pos, pow-le-pow_right, mul-le-mul, mul_assoc, div-le_self, rounded, significand_of, size_of, with_sign, float_item, size_bits, float_bits, FormatHolds, F32, Samples}
 use Rattle.kpn_stream_devices.proofs.Rounding.{whole_units, small_is, adds_few, adds_none, scaled, scaled_up, scaled_down, size_is, highest_is, significand_fits}
 
 not_equal : (a b : ℕ) → (a ≡ b → ⊥) → nat_eq a b ≡ false

@@ -1,11 +1,6 @@
 -- Rounding, and powers of two.
 use Rattle.std.proofs.Common.{◌≡◌, ℕ, zero, suc, ◌+◌, ◌*◌, ◌/◌, ◌%◌, ◌-◌, ◌^◌, ◌<◌, ◌≤◌, false, nat_eq, nat_lt, refl, sym, ap, ◌∙◌, subst, inl, inr, arith, max}
-use Rattle.std.specs.Prelude.{if◌then◌else◌, bit_and}
-use Rattle.std.specs.Int.Count.{count_leading_zeros}
-use Rattle.std.proofs.lemmas.Bool.{cases_lt, cases_eq, lt-ltb, le-ltb, eq-eqb}
-use Rattle.std.proofs.lemmas.Nat.{pow_pos, pow-add, and_mask, one_shl, mod-mul-add, leading_top}
-use Rattle.std.proofs.Math.Nat.{div-add-mod, mod-lt, mul-div-mul_right, mul-lt-mul_of_pos_right, mod-eq_of_lt, div-eq_of_lt, pow-le-pow_right, div-lt_iff_lt-mul, mul-le-mul, mul_assoc, pow-suc}
-use Rattle.kpn_stream_devices.specs.Floats.{rounded, size_of}
+use Rattle.kpn_stream_devices.proofs.Common.{if◌then◌else◌, bit_and, count_leading_zeros, cases_lt, cases_eq, lt-ltb, le-ltb, eq-eqb, pow_pos, pow-add, and_mask, one_shl, mod-mul-add, leading_top, div-add-mod, mod-lt, mul-div-mul_right, mul-lt-mul_of_pos_right, mod-eq_of_lt, div-eq_of_lt, pow-le-pow_right, div-lt_iff_lt-mul, mul-le-mul, mul_assoc, pow-suc, rounded, size_of}
 
 -- what rounding adds to a quotient, by the rest
 abbrev pub adds : (unit rest whole : ℕ) → ℕ

@@ -1,18 +1,7 @@
 -- A sample that was written for an item that it writes exactly is read again as this item.
 use Rattle.std.proofs.Common.{◌≡◌, ℕ, zero, suc, ◌+◌, ◌*◌, ◌%◌, ◌-◌, ◌^◌, ◌<◌, ◌≤◌, refl, ap, ◌∙◌, arith, List, ◌++◌, w64, Some}
 use Rattle.std.specs.Prelude.{ℤ, pos, negsuc, neg_ℤ, ◌-ℤ◌, ◌≤ℤ◌, if◌then◌else◌}
-use Rattle.std.proofs.Math.Dec.{leb→le}
-use Rattle.std.proofs.lemmas.Bool.{lt-ltb, le-ltb}
-use Rattle.std.proofs.lemmas.Int.{ints}
-use Rattle.std.proofs.lemmas.Nat.{pow_pos, pow-add, mod-mul-add}
-use Rattle.std.proofs.Math.Nat.{mod-eq_of_lt, pow-suc}
-use Rattle.byteorder.specs.Endian.{low_bytes, twos_complement}
-use Rattle.byteorder.specs.Numbers.{little_number-reads_back}
-use Rattle.kpn_stream_devices.specs.declared.formats.SampleFormat.{SampleFormat}
-use Rattle.kpn_stream_devices.specs.declared.formats.SampleFormat.TheVariants.{U8, S8, S16, S24, S32, S64, F32}
-use Rattle.kpn_stream_devices.specs.declared.formats.ItemFormat.TheVariants.{Samples}
-use Rattle.kpn_stream_devices.specs.Floats.{float_bits, float_item}
-use Rattle.kpn_stream_devices.specs.Formats.{FormatHolds, IsExact, number_bytes, sample_bytes, sample_value, signed_value}
+use Rattle.kpn_stream_devices.proofs.Common.{leb→le, lt-ltb, le-ltb, ints, pow_pos, pow-add, mod-mul-add, mod-eq_of_lt, pow-suc, low_bytes, twos_complement, little_number-reads_back, SampleFormat, U8, S8, S16, S24, S32, S64, F32, Samples, float_bits, float_item, FormatHolds, IsExact, number_bytes, sample_bytes, sample_value, signed_value}
 use Rattle.kpn_stream_devices.proofs.ReadBack.{float_exact, float_short}
 
 -- the lowest bytes of an item within the range of this many bytes

@@ -1,19 +1,7 @@
 -- What the unused bytes of a window tell.
 use Rattle.std.proofs.Common.{◌≡◌, ℕ, ◌+◌, ◌<◌, ◌≤◌, true, List, [], ◌∷◌, ◌++◌, length, take, drop, Option, Some, None, Err, refl, sym, ap, subst, arith}
 use Rattle.std.specs.Prelude.{ℤ, pos, MatchOption}
-use Rattle.byteorder.specs.Endian.{twos_complement}
-use Rattle.std.specs.List.{position}
-use Rattle.std.specs.Str.Lines.{lines, strip_carriage_return}
-use Rattle.byteorder.specs.Numbers.{little_from-append}
-use Rattle.kpn_text_items.specs.ItemLine.{SpellsItem}
-use Rattle.kpn_stream.specs.declared.faults.SourceFault.TheVariants.{BadItem}
-use Rattle.kpn_stream_devices.specs.Floats.{float_item}
-use Rattle.kpn_stream_devices.specs.Formats.{sample_width, sample_value, signed_value}
-use Rattle.kpn_stream_devices.specs.declared.formats.SampleFormat.{SampleFormat}
-use Rattle.kpn_stream_devices.specs.declared.formats.SampleFormat.TheVariants.{U8, S8, S16, S24, S32, S64, F32}
-use Rattle.kpn_stream_devices.specs.declared.formats.ItemFormat.TheVariants.{Lines}
-use Rattle.kpn_stream_devices.specs.Window.{Window, SpellsNone, one_after, with_one, left_of, IfKnown, IsEndKnown, LineGives, SampleGives, CountsUsed, answer_of, IsRightOf}
-use Rattle.kpn_stream_devices.specs.declared.window.Told.TheVariants.{One}
+use Rattle.kpn_stream_devices.proofs.Common.{twos_complement, position, lines, strip_carriage_return, little_from-append, SpellsItem, BadItem, float_item, sample_width, sample_value, signed_value, SampleFormat, U8, S8, S16, S24, S32, S64, F32, Lines, Window, SpellsNone, one_after, with_one, left_of, IfKnown, IsEndKnown, LineGives, SampleGives, CountsUsed, answer_of, IsRightOf, One}
 use Rattle.kpn_stream_devices.proofs.Lines.{is_feed, feed_within, begins, first_line, only_line, long_line}
 
 -- what is told of a line that is the first of what is left

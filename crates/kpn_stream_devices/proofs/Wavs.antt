@@ -1,19 +1,10 @@
 -- What the unused bytes of a window tell of a WAV file.
 use Rattle.std.proofs.Common.{◌≡◌, ℕ, ◌+◌, ◌-◌, ◌<◌, ◌≤◌, ◌⊎◌, true, List, [], ◌++◌, length, take, drop, length-append, length-take, Option, Some, None, Result, Ok, Err, refl, sym, ap, ◌∙◌, subst, inl, inr, arith}
 use Rattle.std.specs.Prelude.{ℤ, min, nat_eq, ◌||◌, Bool, false, if◌then◌else◌}
-use Rattle.std.proofs.lemmas.Bool.{cases_lt, lt-ltb}
+use Rattle.kpn_stream_devices.proofs.Common.{cases_lt, lt-ltb, SourceFault, BadHead, CutSample, SampleFormat, U8, S8, S16, S24, S32, S64, F32, Head, Open, Bad, Whole, sample_width, sample_value, head_at, least_unknown, One, Other}
 use Rattle.std.proofs.lemmas.List.{append-nil, length-drop, drop-append-le, drop-drop, drop-take, take-append-drop, take-append-le, take_all}
-use Rattle.kpn_stream.specs.declared.faults.SourceFault.{SourceFault}
-use Rattle.kpn_stream.specs.declared.faults.SourceFault.TheVariants.{BadHead, CutSample}
-use Rattle.kpn_stream_devices.specs.declared.formats.SampleFormat.{SampleFormat}
-use Rattle.kpn_stream_devices.specs.declared.formats.SampleFormat.TheVariants.{U8, S8, S16, S24, S32, S64, F32}
 use Rattle.kpn_stream_devices.specs.declared.head.Wav.{Wav}
-use Rattle.kpn_stream_devices.specs.declared.head.Head.{Head}
-use Rattle.kpn_stream_devices.specs.declared.head.Head.TheVariants.{Open, Bad, Whole}
-use Rattle.kpn_stream_devices.specs.Formats.{sample_width, sample_value}
-use Rattle.kpn_stream_devices.specs.Head.{head_at, least_unknown}
 use Rattle.kpn_stream_devices.specs.Window.{Window, one_after, with_one, left_of, IfKnown, IsEndKnown, SampleGives, SamplesGoOn, DataGives, WavGives, answer_of, IsRightOfWav, data_of, end_told, fills_up, ends_samples}
-use Rattle.kpn_stream_devices.specs.declared.window.Told.TheVariants.{One, Other}
 use Rattle.kpn_stream_devices.proofs.Heads.{head_at_again}
 use Rattle.kpn_stream_devices.proofs.Telling.{value_again, counts, sample_gives}
 

@@ -1,26 +1,13 @@
 -- The statements of a block, printed one after the other.
 use Rattle.std.proofs.Common.{◌≡◌, ℕ, suc, ◌+◌, ◌-◌, true, false, ◌<◌, ◌≤◌, List, [], ◌∷◌, ◌++◌, length, get_or, drop, slice_get, Result, OnOk, codes, refl, ap, ◌∙◌, sym, arith}
-use Rattle.std.specs.Prelude.{◌==◌}
-use Rattle.std.specs.List.{list_all}
-use Rattle.std.proofs.lemmas.Bool.{and_from}
-use Rattle.std.proofs.lemmas.List.{drop_all, length-map}
-use Rattle.kpn_limits.specs.declared.TheConstants.{MAX_LEVELS}
+use Rattle.kpn_text.proofs.Common.{◌==◌, list_all, and_from, drop_all, length-map, MAX_LEVELS, Parts, IsProgram, inner_blocks, is_within, Tree, tree_of, tree_over, block_at, statements_of, Language, ExpressionNode, Statements, no_statements, statement, choice, ProcessNames, statements_named, term_named, else_text, indented, otherwise_text, statements_text, unindented_text, whole_text, Writes}
 use Rattle.kpn_lang.specs.declared.syntax.Stmt.{Stmt}
-use Rattle.kpn_lang.specs.Parts.{Parts, IsProgram, inner_blocks, is_within}
 use Rattle.kpn_lang.specs.Syntax as lang
 use Rattle.kpn_lang.specs.Syntax.{Statement, Assign, Read, Write, If, While, Set, statement_of}
-use Rattle.kpn_lang.specs.Tree.{Tree, tree_of, tree_over, block_at}
-use Rattle.kpn_lang.specs.View.{statements_of}
 use Rattle.kpn_lang.proofs.Programs.{AreWithin, tree_of_block, within_at, within_positive, within_read}
 use Rattle.kpn_lang.proofs.Interpreting.{statement_read, statements_left}
-use Rattle.kpn_text_tokens.specs.declared.tokens.Language.{Language}
 use Rattle.kpn_text_tokens.specs.declared.tokens.Language.TheVariants as language
-use Rattle.kpn_text_grammar.specs.Syntax.{ExpressionNode, Statements, no_statements, statement, choice}
-use Rattle.kpn_text_names.specs.declared.network_names.ProcessNames.{ProcessNames}
-use Rattle.kpn_text.specs.Named.{statements_named, term_named}
 use Rattle.kpn_text.specs.Seconds.{HasBraces, IsLong}
-use Rattle.kpn_text.specs.Text.{else_text, indented, otherwise_text, statements_text, unindented_text, whole_text}
-use Rattle.kpn_text.specs.Writing.{Writes}
 use Rattle.kpn_text.proofs.PrintingLemmas.{same_prints, then_prints}
 
 -- the text of statements over the trees of the blocks inside them

@@ -1,12 +1,8 @@
 -- What kind of channel has which capacity and which reader.
-use Rattle.std.proofs.Common.{◌≡◌, ℕ, suc, true, false, cond, List, [], ◌∷◌, ◌++◌, get_or, Some}
-use Rattle.std.specs.Prelude.{nat_eq}
-use Rattle.kpn_net.specs.declared.tables.ChannelSpec.{ChannelSpec}
+use Rattle.kpn_text.proofs.Common.{◌≡◌, ℕ, suc, true, false, cond, List, [], ◌∷◌, ◌++◌, get_or, Some, nat_eq, ChannelSpec, Instance, Tables, capacity, channel_at, ends_from, is_sink, ends_among, reader_of}
 use Rattle.kpn_net.specs.declared.tables.ChannelSpec.TheVariants as channel
 use Rattle.kpn_net.specs.declared.tables.End.{End}
 use Rattle.kpn_net.specs.declared.tables.End.TheVariants.{Process, Source, Sink}
-use Rattle.kpn_net.specs.declared.tables.Instance.{Instance}
-use Rattle.kpn_net.specs.Tables.{Tables, capacity, channel_at, ends_from, is_sink, ends_among, reader_of}
 
 -- the first of these is not the sink
 abbrev BeginsNoSink : List End → Type 0

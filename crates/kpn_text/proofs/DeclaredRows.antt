@@ -1,20 +1,7 @@
 -- The arrays and the tables that declarations make, and what they are printed as.
-use Rattle.std.proofs.Common.{◌≡◌, ℕ, ◌+◌, ◌≤◌, ◌||◌, ℤ, Bool, true, false, List, [], ◌∷◌, ◌++◌, length, map, Ok, refl, sym, ap, subst, ◌∙◌, append_assoc, append-nil, length-append, arith}
-use Rattle.std.specs.List.{AllByRecursion}
-use Rattle.std.proofs.lemmas.List.{map-append, length-map, take_at, drop_at}
-use Rattle.kpn_text_grammar.specs.Syntax.{NameBytes, literal_value, Table, Declaration, array, table}
-use Rattle.kpn_text_grammar.specs.Spelling.{DeclarationIsWithin}
-use Rattle.kpn_text_names.specs.declared.network_names.NamedRow.{NamedRow}
+use Rattle.kpn_text.proofs.Common.{◌≡◌, ℕ, ◌+◌, ◌≤◌, ◌||◌, ℤ, Bool, true, false, List, [], ◌∷◌, ◌++◌, length, map, Ok, refl, sym, ap, subst, ◌∙◌, append_assoc, append-nil, length-append, arith, AllByRecursion, map-append, length-map, take_at, drop_at, NameBytes, literal_value, Table, Declaration, array, table, DeclarationIsWithin, NamedRow, NameScope, has, paired, named_row, within_64_bits, with_row, is_taken, is_row, is_port, table_values, with_declaration, declare, literal_named, array_named, tables_named, ok_is, went, if_not, with_name_new}
 use Rattle.kpn_text_names.specs.declared.rows.Rows.{Rows}
-use Rattle.kpn_text_names.specs.declared.scope.NameScope.{NameScope}
 use Rattle.kpn_text_names.specs.Fault.{each}
-use Rattle.kpn_text_names.specs.Names.{has}
-use Rattle.kpn_text_names.specs.NetworkNames.{paired, named_row}
-use Rattle.kpn_text_names.specs.Rows.{within_64_bits, with_row}
-use Rattle.kpn_text_names.specs.Scope.{is_taken, is_row, is_port, table_values, with_declaration, declare}
-use Rattle.kpn_text.specs.Named.{literal_named, array_named, tables_named}
-use Rattle.kpn_text_names.proofs.Chains.{ok_is, went}
-use Rattle.kpn_text_names.proofs.KnownNames.{if_not, with_name_new}
 use Rattle.kpn_text.proofs.SortedDeclarations.{plain_table, arrays_of, tables_of}
 use Rattle.kpn_text.proofs.StandingRows.{Follow, follow_more}
 

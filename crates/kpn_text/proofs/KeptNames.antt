@@ -1,16 +1,6 @@
 -- The processes of a description keep their names, each with its number.
-use Rattle.std.proofs.Common.{◌≡◌, List, [], ◌∷◌, ◌++◌, length, map, Ok, sym, ap, ◌∙◌, append_assoc, append-nil, refl, arith}
-use Rattle.std.proofs.lemmas.List.{length-map}
-use Rattle.kpn_text_tokens.specs.declared.tokens.Language.{Language}
-use Rattle.kpn_text_grammar.specs.Syntax.{NameBytes, ProcessNode}
-use Rattle.kpn_text_names.specs.declared.scope.NameScope.{NameScope}
-use Rattle.kpn_text_names.specs.declared.tables.SharedTables.{SharedTables}
+use Rattle.kpn_text.proofs.Common.{◌≡◌, List, [], ◌∷◌, ◌++◌, length, map, Ok, sym, ap, ◌∙◌, append_assoc, append-nil, refl, arith, length-map, Language, NameBytes, ProcessNode, NameScope, SharedTables, Programs, with_named_process, programs_of, paired, process_names_in, ok_is, went, programs_match, declared_is}
 use Rattle.kpn_text_names.specs.Fault.{each}
-use Rattle.kpn_text_names.specs.Named.{Programs, with_named_process, programs_of}
-use Rattle.kpn_text_names.specs.NetworkNames.{paired, process_names_in}
-use Rattle.kpn_text_names.proofs.Chains.{ok_is, went}
-use Rattle.kpn_text_names.proofs.Counts.{programs_match}
-use Rattle.kpn_text_names.proofs.KnownNames.{declared_is}
 
 paired_names : (xs : List NameBytes) (ss : List NameScope) → length xs ≡ length ss
     → map (λ p. p.name) (paired process_names_in xs ss) ≡ xs

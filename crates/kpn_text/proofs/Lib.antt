@@ -1,4 +1,5 @@
 -- The lemmas. Other crates may cite the public ones.
+pub mod Common
 pub mod KeptNames
 pub mod Parameters
 mod TokenPhases

@@ -1,15 +1,6 @@
 -- How printed lists are read, by how their items are.
-use Rattle.std.proofs.Common.{ℕ, List, [], ◌∷◌, ◌++◌, codes, refl}
-use Rattle.std.specs.List.{AllByRecursion}
-use Rattle.kpn_text_tokens.specs.declared.tokens.Language.{Language}
+use Rattle.kpn_text.proofs.Common.{ℕ, List, [], ◌∷◌, ◌++◌, codes, refl, AllByRecursion, Language, Token, IsName, NameBytes, spell_all, spell_further, spell_list, spell_name, spell_names, EndsWord, AreNames, all_text, further_text, list_text, name_text, names_text}
 use Rattle.kpn_text_tokens.specs.declared.tokens.Mark.TheVariants as mark
-use Rattle.kpn_text_tokens.specs.declared.tokens.Token.{Token}
-use Rattle.kpn_text_tokens.specs.Rules.{IsName}
-use Rattle.kpn_text_grammar.specs.Syntax.{NameBytes}
-use Rattle.kpn_text_grammar.specs.Spelling.{spell_all, spell_further, spell_list, spell_name, spell_names}
-use Rattle.kpn_text.specs.CanonicalLaws.{EndsWord}
-use Rattle.kpn_text.specs.Proper.{AreNames}
-use Rattle.kpn_text.specs.Text.{all_text, further_text, list_text, name_text, names_text}
 use Rattle.kpn_text.proofs.TokenLemmas.{IsReadAs, name_read, mark_read, space_read}
 
 -- lines, which are read whatever follows them

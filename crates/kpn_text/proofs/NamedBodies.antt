@@ -1,21 +1,7 @@
 -- A body whose names were resolved is the body again once its numbers are replaced by their names.
-use Rattle.std.proofs.Common.{◌≡◌, ℕ, pos, ◌||◌, List, ◌++◌, Ok, refl, sym, ap, subst, ◌∙◌, append_assoc}
-use Rattle.std.specs.List.{position_or_len}
-use Rattle.std.specs.Str.{bytes_eq}
+use Rattle.kpn_text.proofs.Common.{◌≡◌, ℕ, pos, ◌||◌, List, ◌++◌, Ok, refl, sym, ap, subst, ◌∙◌, append_assoc, position_or_len, bytes_eq, Tree, NameBytes, ExpressionNode, numeral, variable, element, minus, negation, complement, binary, conditional, StatementNode, assign, store, receive, send, choice, loop, Statements, no_statements, statement, NameScope, and_then, known, with_name, name_at, Row, is_port, is_row, target, array_row, row_of, ProcessNames, row_name, term_named, statements_named, ok_is, went, IsNamed, is_named-append, known_named, target_named, if_not, Grows, grows_not, grows_on, target_grows}
 use Rattle.kpn_lang.specs.Syntax as lang
-use Rattle.kpn_lang.specs.Tree.{Tree}
-use Rattle.kpn_text_grammar.specs.Syntax.{NameBytes, ExpressionNode, numeral, variable, element, minus, negation, complement, binary, conditional, StatementNode, assign, store, receive, send, choice, loop, Statements, no_statements, statement}
-use Rattle.kpn_text_names.specs.declared.scope.NameScope.{NameScope}
-use Rattle.kpn_text_tokens.specs.Results.{and_then}
-use Rattle.kpn_text_names.specs.Names.{known, with_name, name_at}
-use Rattle.kpn_text_names.specs.declared.rows.Row.{Row}
-use Rattle.kpn_text_names.specs.Scope.{is_port, is_row, target, array_row, row_of}
 use Rattle.kpn_text_names.specs.Body.{term_in, statement_in, tree_in}
-use Rattle.kpn_text_names.specs.declared.network_names.ProcessNames.{ProcessNames}
-use Rattle.kpn_text.specs.Named.{row_name, term_named, statements_named}
-use Rattle.kpn_text_names.proofs.Chains.{ok_is, went}
-use Rattle.kpn_text_names.proofs.KnownNames.{IsNamed, is_named-append, known_named, target_named, if_not}
-use Rattle.kpn_text_names.proofs.Growing.{Grows, grows_not, grows_on, target_grows}
 
 -- ---- scopes
 

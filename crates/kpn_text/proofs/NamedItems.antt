@@ -1,23 +1,11 @@
 -- Take the items of a network whose names were resolved, with a name in place of each number again, the channels first
 -- and then the instances. They resolve to the same tables.
-use Rattle.std.proofs.Common.{◌≡◌, ℕ, zero, suc, ◌<◌, ◌^◌, false, List, [], ◌∷◌, ◌++◌, map, fold, ℤ, pos, negsuc, Result, Ok, refl, sym, ap, subst, ◌∙◌, append_assoc, append-nil, arith}
-use Rattle.std.specs.List.{AllByRecursion}
+use Rattle.kpn_text.proofs.Common.{◌≡◌, ℕ, zero, suc, ◌<◌, ◌^◌, false, List, [], ◌∷◌, ◌++◌, map, fold, ℤ, pos, negsuc, Result, Ok, refl, sym, ap, subst, ◌∙◌, append_assoc, append-nil, arith, AllByRecursion, ChannelSpec, Language, NameBytes, Literal, plain, negated, literal_value, InstanceNode, Item, channel, source, sink, instance, has, known, all_known, declared, with_name, name_at, within_32_bits, with_channel_name, all_channels, Wiring, with_wired_channel, instance_of, with_instance, with_wired_item, wiring, NetworkNames, process_names, paired, literal_named, channel_named, call_named, instance_named, IsProperLiteral, IsProperInstance, IsProperItem, ok_is, went, then_ok, known_named, all_known_named, declared_is, declared_new, with_name_new}
 use Rattle.std.proofs.lemmas.List.Sums.{fold-append}
-use Rattle.kpn_net.specs.declared.tables.ChannelSpec.{ChannelSpec}
 use Rattle.kpn_net.specs.declared.tables.ChannelSpec.TheVariants.{Inner, Source, Sink}
 use Rattle.kpn_net.specs.declared.tables.Instance as net
-use Rattle.kpn_text_tokens.specs.declared.tokens.Language.{Language}
-use Rattle.kpn_text_grammar.specs.Syntax.{NameBytes, Literal, plain, negated, literal_value, InstanceNode, Item, channel, source, sink, instance}
 use Rattle.kpn_text_names.specs.Fault.{NameError, each}
 use Rattle.kpn_text_tokens.specs.Results.{and_then}
-use Rattle.kpn_text_names.specs.Names.{has, known, all_known, declared, with_name, name_at}
-use Rattle.kpn_text_names.specs.Network.{within_32_bits, with_channel_name, all_channels, Wiring, with_wired_channel, instance_of, with_instance, with_wired_item, wiring}
-use Rattle.kpn_text_names.specs.declared.network_names.NetworkNames.{NetworkNames}
-use Rattle.kpn_text_names.specs.NetworkNames.{process_names, paired}
-use Rattle.kpn_text.specs.Named.{literal_named, channel_named, call_named, instance_named}
-use Rattle.kpn_text.specs.Proper.{IsProperLiteral, IsProperInstance, IsProperItem}
-use Rattle.kpn_text_names.proofs.Chains.{ok_is, went, then_ok}
-use Rattle.kpn_text_names.proofs.KnownNames.{known_named, all_known_named, declared_is, declared_new, with_name_new}
 
 -- ---- values and capacities
 

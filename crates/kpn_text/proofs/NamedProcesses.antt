@@ -1,38 +1,10 @@
 -- Processes whose names were resolved are the processes again once their numbers are replaced by their names, each with
 -- its arrays and then its tables.
 use Rattle.std.proofs.Common.{◌≡◌, ℕ, zero, suc, ◌+◌, ◌-◌, ◌<◌, ◌≤◌, ◌||◌, ℤ, Bool, true, false, cond, Option, Some, None, List, [], ◌∷◌, ◌++◌, length, map, take, drop, nat_lt, Ok, refl, sym, ap, subst, ◌∙◌, append_assoc, append-nil, length-append, arith}
-use Rattle.std.specs.Prelude.{All, sum_by}
-use Rattle.std.specs.List.{AllByRecursion, flat_map}
-use Rattle.std.proofs.Math.Seq.{take-append_seam}
-use Rattle.std.proofs.lemmas.Bool.Decides.{nat_tests}
-use Rattle.std.proofs.lemmas.List.{take_at}
-use Rattle.kpn_limits.specs.declared.TheConstants.{MAX_VARIABLES, MAX_PORTS, MAX_CELLS, MAX_NODES, MAX_LEVELS}
-use Rattle.kpn_lang.specs.declared.program.ProgramFault.{ProgramFault}
+use Rattle.kpn_text.proofs.Common.{All, sum_by, AllByRecursion, flat_map, take-append_seam, nat_tests, take_at, MAX_VARIABLES, MAX_PORTS, MAX_CELLS, MAX_NODES, MAX_LEVELS, ProgramFault, Parts, IsProgram, is_too_large, statement_nodes, Tree, tree_of, Language, NameBytes, Declaration, array, table, ProcessNode, ProcessIsWithin, ProcessNames, Row, NameScope, SharedTables, declared, within_64_bits, are_new, behind_arrays, declare, head_scope, is_taken, declared_name, scope_with, with_declaration, values_at, tree_in, body_blocks, WrittenBody, body_of, BlocksAreTheTree, NamedProgram, free_of, values_of, program_with, with_uses, at_body, named_program, Programs, with_named_process, programs_of, paired, named_row, process_names_in, statements_named, literal_named, array_named, tables_named, declarations_named, process_named, ok_is, went, if_so, if_not, declared_is, body_grows}
 use Rattle.kpn_lang.specs.declared.program.ProgramFault.TheVariants as rule
-use Rattle.kpn_lang.specs.Parts.{Parts, IsProgram, is_too_large, statement_nodes}
-use Rattle.kpn_lang.specs.Tree.{Tree, tree_of}
-use Rattle.kpn_text_tokens.specs.declared.tokens.Language.{Language}
-use Rattle.kpn_text_grammar.specs.Syntax.{NameBytes, Declaration, array, table, ProcessNode}
-use Rattle.kpn_text_grammar.specs.Spelling.{ProcessIsWithin}
-use Rattle.kpn_text_names.specs.declared.network_names.ProcessNames.{ProcessNames}
-use Rattle.kpn_text_names.specs.declared.rows.Row.{Row}
-use Rattle.kpn_text_names.specs.declared.scope.NameScope.{NameScope}
-use Rattle.kpn_text_names.specs.declared.tables.SharedTables.{SharedTables}
 use Rattle.kpn_text_names.specs.Fault.{each}
-use Rattle.kpn_text_names.specs.Names.{declared}
-use Rattle.kpn_text_names.specs.Rows.{within_64_bits}
-use Rattle.kpn_text_names.specs.Scope.{are_new, behind_arrays, declare, head_scope, is_taken, declared_name, scope_with, with_declaration}
-use Rattle.kpn_text_names.specs.Shared.{values_at}
-use Rattle.kpn_text_names.specs.Body.{tree_in}
-use Rattle.kpn_text_names.specs.Blocks.{body_blocks, WrittenBody, body_of}
-use Rattle.kpn_text_names.specs.Laws.{BlocksAreTheTree}
-use Rattle.kpn_text_names.specs.Named.{NamedProgram, free_of, values_of, program_with, with_uses, at_body, named_program, Programs, with_named_process, programs_of}
-use Rattle.kpn_text_names.specs.NetworkNames.{paired, named_row, process_names_in}
-use Rattle.kpn_text.specs.Named.{statements_named, literal_named, array_named, tables_named, declarations_named, process_named}
-use Rattle.kpn_text_names.proofs.Chains.{ok_is, went}
-use Rattle.kpn_text_names.proofs.KnownNames.{if_so, if_not, declared_is}
 use Rattle.kpn_text.proofs.DeclaredRows.{Laid, rows_of, Declares, all_declared, or_parts}
-use Rattle.kpn_text_names.proofs.Growing.{body_grows}
 use Rattle.kpn_text.proofs.NamedBodies.{block_back}
 use Rattle.kpn_text.proofs.SharedTables.{sorted_process}
 use Rattle.kpn_text.proofs.SortedDeclarations.{arrays_of, tables_of, sorted}

@@ -1,34 +1,9 @@
 -- The names of a document are text: they are names of its description, whose bytes are ASCII.
-use Rattle.std.proofs.Common.{◌≡◌, ℕ, zero, suc, ◌<◌, Bool, true, ◌||◌, List, [], ◌∷◌, ◌++◌, length, map, Ok, refl, sym, ◌∙◌, subst, arith}
-use Rattle.std.specs.Prelude.{All}
-use Rattle.std.specs.Char.{is_ascii_digit}
-use Rattle.std.specs.List.{AllByRecursion, list_all}
-use Rattle.std.specs.Str.{IsUtf8}
-use Rattle.std.proofs.lemmas.Bool.{and_parts}
-use Rattle.std.proofs.lemmas.Bool.Decides.{nat_tests}
-use Rattle.std.proofs.lemmas.List.{map-id}
-use Rattle.std.proofs.lemmas.List.Elements.{All-nil, All-cons}
+use Rattle.kpn_text.proofs.Common.{◌≡◌, ℕ, zero, suc, ◌<◌, Bool, true, ◌||◌, List, [], ◌∷◌, ◌++◌, length, map, Ok, refl, sym, ◌∙◌, subst, arith, All, is_ascii_digit, AllByRecursion, list_all, IsUtf8, and_parts, nat_tests, map-id, All-nil, All-cons, ChannelSpec, Tables, Language, begins_name, IsName, NameBytes, ProcessNode, Description, NetworkNames, name_at, AreNamed, names_in, paired, process_names, shared_of, settings_of, wiring, ok_is, went, are_named, resolved_each, ReadDescriptionsAreProper, channel_named, instance_named, network_named, IsProperProcess, IsProperItem, IsProper, Document}
 use Rattle.std.proofs.lemmas.Str.{IsUtf8-from_ascii}
 use Rattle.std.proofs.lemmas.Str.Ascii.{IsAscii-from_all}
-use Rattle.kpn_net.specs.declared.tables.ChannelSpec.{ChannelSpec}
 use Rattle.kpn_net.specs.declared.tables.ChannelSpec.TheVariants.{Inner, Source, Sink}
-use Rattle.kpn_net.specs.Tables.{Tables}
-use Rattle.kpn_text_tokens.specs.declared.tokens.Language.{Language}
-use Rattle.kpn_text_tokens.specs.Lexing.{begins_name}
-use Rattle.kpn_text_tokens.specs.Rules.{IsName}
-use Rattle.kpn_text_grammar.specs.Syntax.{NameBytes, ProcessNode, Description}
-use Rattle.kpn_text_names.specs.declared.network_names.NetworkNames.{NetworkNames}
-use Rattle.kpn_text_names.specs.Names.{name_at}
-use Rattle.kpn_text_names.specs.NetworkNames.{AreNamed, names_in, paired, process_names}
-use Rattle.kpn_text_names.specs.Shared.{shared_of}
-use Rattle.kpn_text_names.specs.Network.{settings_of, wiring}
 use Rattle.kpn_text_names.specs.Named.{Named, named_with, programs_of, resolve}
-use Rattle.kpn_text_names.proofs.Chains.{ok_is, went}
-use Rattle.kpn_text_names.proofs.Counts.{are_named, resolved_each}
-use Rattle.kpn_text.specs.CanonicalLaws.{ReadDescriptionsAreProper}
-use Rattle.kpn_text.specs.Named.{channel_named, instance_named, network_named}
-use Rattle.kpn_text.specs.Proper.{IsProperProcess, IsProperItem, IsProper}
-use Rattle.kpn_text.specs.Document.{Document}
 use Rattle.kpn_text.specs.Laws.{AreText, NamesAreText}
 use Rattle.kpn_text.proofs.KeptNames.{names_back, names_kept}
 use Rattle.kpn_text.proofs.NamedItems.{items_back}

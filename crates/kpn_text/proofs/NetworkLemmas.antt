@@ -1,29 +1,16 @@
 -- How a printed network is read, and a whole description.
-use Rattle.std.proofs.Common.{◌≡◌, ℕ, ◌<◌, ◌^◌, List, [], ◌∷◌, ◌++◌, codes, Option, Some, None, true, refl, lit≤, arith}
-use Rattle.std.specs.Fmt.{decimal}
-use Rattle.std.specs.List.{AllByRecursion}
-use Rattle.kpn_net.specs.declared.tables.Growth.{Growth}
+use Rattle.kpn_text.proofs.Common.{◌≡◌, ℕ, ◌<◌, ◌^◌, List, [], ◌∷◌, ◌++◌, codes, Option, Some, None, true, refl, lit≤, arith, decimal, AllByRecursion, Growth, Policy, Keyword, Language, Token, IsName, NameBytes, Literal, InstanceNode, Item, channel, source, sink, instance, Table, ProcessNode, NetworkNode, Description, spell_literal, spell_table, spell_names, spell_values, spell_call, spell_item, spell_limit, spell_policy, spell_growth, spell_network, spell_process, spell_language, spell_description, EndsWord, AreNames, IsProperLiteral, IsProperInstance, IsProperItem, IsProperLimit, IsProperNetwork, IsProperTable, IsProperProcess, IsProper, literal_text, list_text, outs_text, values_text, call_text, network_item_text, limit_text, policy_text, growth_text, network_text, table_text, process_text, all_text, language_text, description_text}
 use Rattle.kpn_net.specs.declared.tables.Growth.TheVariants as growth
-use Rattle.kpn_net.specs.declared.tables.Policy.{Policy}
 use Rattle.kpn_net.specs.declared.tables.Policy.TheVariants as policy
-use Rattle.kpn_text_tokens.specs.declared.tokens.Keyword.{Keyword}
 use Rattle.kpn_text_tokens.specs.declared.tokens.Keyword.TheVariants as keyword
-use Rattle.kpn_text_tokens.specs.declared.tokens.Language.{Language}
 use Rattle.kpn_text_tokens.specs.declared.tokens.Language.TheVariants as language
 use Rattle.kpn_text_tokens.specs.declared.tokens.Mark.TheVariants as mark
-use Rattle.kpn_text_tokens.specs.declared.tokens.Token.{Token}
 use Rattle.kpn_text_tokens.specs.declared.tokens.Token.TheVariants as token
-use Rattle.kpn_text_tokens.specs.Rules.{IsName}
 use Rattle.kpn_text_tokens.specs.Lexing.{piece_of}
 use Rattle.kpn_text_tokens.specs.Spelling.{has_keyword, keyword_bytes, keyword_of, mark_at}
 use Rattle.kpn_text_tokens.specs.Opening.{language_of}
 use Rattle.kpn_text_tokens.proofs.Openings.{network_told, process_told, two_told}
 use Rattle.kpn_text_grammar.specs.Words.{growth_word, policy_word}
-use Rattle.kpn_text_grammar.specs.Syntax.{NameBytes, Literal, InstanceNode, Item, channel, source, sink, instance, Table, ProcessNode, NetworkNode, Description}
-use Rattle.kpn_text_grammar.specs.Spelling.{spell_literal, spell_table, spell_names, spell_values, spell_call, spell_item, spell_limit, spell_policy, spell_growth, spell_network, spell_process, spell_language, spell_description}
-use Rattle.kpn_text.specs.CanonicalLaws.{EndsWord}
-use Rattle.kpn_text.specs.Proper.{AreNames, IsProperLiteral, IsProperInstance, IsProperItem, IsProperLimit, IsProperNetwork, IsProperTable, IsProperProcess, IsProper}
-use Rattle.kpn_text.specs.Text.{literal_text, list_text, outs_text, values_text, call_text, network_item_text, limit_text, policy_text, growth_text, network_text, table_text, process_text, all_text, language_text, description_text}
 use Rattle.kpn_text.proofs.TokenLemmas.{IsReadAs, nothing_read, token_read, name_read, number_read, mark_read, keyword_read, space_read, indent_read}
 use Rattle.kpn_text.proofs.StatementLemmas.{end_read, open_read, close_read}
 use Rattle.kpn_text.proofs.ListLemmas.{all_read, list_read, names_read}

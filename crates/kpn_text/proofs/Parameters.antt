@@ -1,25 +1,7 @@
 -- A process has its parameters among its variables: its body only adds variables.
-use Rattle.std.proofs.Common.{◌≡◌, ℕ, ◌+◌, ◌<◌, ◌≤◌, max, Bool, true, false, cond, refl, Ok, List, [], ◌∷◌, ◌++◌, length, sym, ap, subst, ◌∙◌, arith, length-append}
-use Rattle.std.specs.Prelude.{All, nat_eq}
-use Rattle.std.proofs.lemmas.Bool.Decides.{nat_tests}
-use Rattle.kpn_limits.specs.declared.TheConstants.{MAX_VARIABLES}
-use Rattle.std.proofs.lemmas.List.Elements.{All-nil, All-cons, All-append, All-map}
-use Rattle.kpn_lang.specs.Parts.{Parts}
-use Rattle.kpn_text_tokens.specs.declared.tokens.Language.{Language}
-use Rattle.kpn_text_grammar.specs.Syntax.{ProcessNode, Description}
-use Rattle.kpn_text_names.specs.declared.scope.NameScope.{NameScope}
-use Rattle.kpn_text_names.specs.Names.{declared}
-use Rattle.kpn_text_names.specs.declared.tables.SharedTables.{SharedTables}
-use Rattle.kpn_text_names.specs.Fault.{each}
-use Rattle.kpn_text_names.specs.Scope.{head_scope, declare}
-use Rattle.kpn_text_names.specs.Shared.{shared_of}
-use Rattle.kpn_text_names.specs.Body.{tree_in}
-use Rattle.kpn_text_names.specs.Blocks.{WrittenBody, body_of}
-use Rattle.kpn_text_names.specs.Network.{wiring}
+use Rattle.kpn_text.proofs.Common.{◌≡◌, ℕ, ◌+◌, ◌<◌, ◌≤◌, max, Bool, true, false, cond, refl, Ok, List, [], ◌∷◌, ◌++◌, length, sym, ap, subst, ◌∙◌, arith, length-append, All, nat_eq, nat_tests, MAX_VARIABLES, All-nil, All-cons, All-append, All-map, Parts, Language, ProcessNode, Description, NameScope, declared, SharedTables, each, head_scope, declare, shared_of, tree_in, WrittenBody, body_of, wiring, ok_is, went, Grows, body_grows}
 use Rattle.kpn_text_names.specs.Named.{Named, NamedProgram, Programs, free_of, values_of, with_uses, at_body, named_program, programs_of, with_named_process, resolve}
-use Rattle.kpn_text_names.proofs.Chains.{ok_is, went}
 use Rattle.kpn_text_names.proofs.Steps.{keeps}
-use Rattle.kpn_text_names.proofs.Growing.{Grows, body_grows}
 
 -- the parameters are among the variables, and with cells there are 64 of them
 pub record HasItsParameters (p : NamedProgram) : Type 0 where

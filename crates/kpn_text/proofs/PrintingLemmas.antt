@@ -1,14 +1,6 @@
 -- Texts that are printed one after the other.
 use Rattle.std.proofs.Common.{◌≡◌, ℕ, ℤ, pos, negsuc, suc, ◌+◌, ◌-◌, ◌<◌, false, List, [], ◌∷◌, ◌++◌, length, get_or, drop, map, nat_lt, Some, Result, Ok, Err, codes, OnOk, refl, ap, ◌∙◌, arith}
-use Rattle.std.specs.Fmt.{signed_decimal}
-use Rattle.std.specs.Prelude.{◌==◌}
-use Rattle.std.proofs.lemmas.Bool.{cond-true, lt-ltb}
-use Rattle.std.proofs.lemmas.List.{drop_more}
-use Rattle.kpn_limits.specs.declared.TheConstants.{MAX_CAPACITY}
-use Rattle.kpn_text_tokens.specs.declared.tokens.Language.{Language}
-use Rattle.kpn_text.specs.Named.{number_named, literal_named, limit_named}
-use Rattle.kpn_text.specs.Text.{all_text, further_text, indented, list_text, names_text, outs_text, term_text, literal_text, values_text}
-use Rattle.kpn_text.specs.Writing.{Writes}
+use Rattle.kpn_text.proofs.Common.{signed_decimal, ◌==◌, cond-true, lt-ltb, drop_more, MAX_CAPACITY, Language, number_named, literal_named, limit_named, all_text, further_text, indented, list_text, names_text, outs_text, term_text, literal_text, values_text, Writes}
 
 -- one text and then another
 pub prints_then : (a b c : List ℕ) (f g : List ℕ → List ℕ) → Writes a b f → Writes b c g

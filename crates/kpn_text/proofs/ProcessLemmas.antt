@@ -1,18 +1,8 @@
 -- How printed tables, arrays and processes are read.
-use Rattle.std.proofs.Common.{◌≡◌, ℕ, true, List, [], ◌∷◌, ◌++◌, codes, refl}
-use Rattle.std.specs.Fmt.{decimal}
-use Rattle.kpn_text_tokens.specs.declared.tokens.Keyword.{Keyword}
+use Rattle.kpn_text.proofs.Common.{◌≡◌, ℕ, true, List, [], ◌∷◌, ◌++◌, codes, refl, decimal, Keyword, Language, Token, has_keyword, NameBytes, Literal, plain, negated, Table, Declaration, array, table, ProcessNode, spell_literal, spell_table, spell_declaration, spell_part, spell_later_part, spell_parts, spell_process, EndsWord, AreNames, IsProperLiteral, IsProperTable, IsProperDeclaration, IsProperProcess, literal_text, list_text, table_text, declaration_text, all_text, names_text, part_text, parts_text, statements_text, process_text}
 use Rattle.kpn_text_tokens.specs.declared.tokens.Keyword.TheVariants as keyword
-use Rattle.kpn_text_tokens.specs.declared.tokens.Language.{Language}
 use Rattle.kpn_text_tokens.specs.declared.tokens.Mark.TheVariants as mark
-use Rattle.kpn_text_tokens.specs.declared.tokens.Token.{Token}
 use Rattle.kpn_text_tokens.specs.declared.tokens.Token.TheVariants as token
-use Rattle.kpn_text_tokens.specs.Spelling.{has_keyword}
-use Rattle.kpn_text_grammar.specs.Syntax.{NameBytes, Literal, plain, negated, Table, Declaration, array, table, ProcessNode}
-use Rattle.kpn_text_grammar.specs.Spelling.{spell_literal, spell_table, spell_declaration, spell_part, spell_later_part, spell_parts, spell_process}
-use Rattle.kpn_text.specs.CanonicalLaws.{EndsWord}
-use Rattle.kpn_text.specs.Proper.{AreNames, IsProperLiteral, IsProperTable, IsProperDeclaration, IsProperProcess}
-use Rattle.kpn_text.specs.Text.{literal_text, list_text, table_text, declaration_text, all_text, names_text, part_text, parts_text, statements_text, process_text}
 use Rattle.kpn_text.proofs.TokenLemmas.{IsReadAs, name_read, number_read, mark_read, keyword_read, space_read, indent_read}
 use Rattle.kpn_text.proofs.StatementLemmas.{end_read, open_read, close_read, statements_read}
 use Rattle.kpn_text.proofs.ListLemmas.{all_read, list_read, names_read}

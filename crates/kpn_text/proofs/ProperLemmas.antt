@@ -1,30 +1,13 @@
 -- What was read from a text is proper: each name is a name, and each number is in range.
-use Rattle.std.proofs.Common.{◌≡◌, ℕ, ◌<◌, ◌^◌, true, List, [], ◌∷◌, length, Option, Some, None, Ok, subst, arith}
-use Rattle.std.specs.List.{AllByRecursion}
-use Rattle.kpn_net.specs.declared.tables.Growth.{Growth}
-use Rattle.kpn_net.specs.declared.tables.Policy.{Policy}
-use Rattle.kpn_limits.specs.declared.TheConstants.{MAX_LEVELS}
-use Rattle.kpn_text_tokens.specs.declared.tokens.Keyword.{Keyword}
+use Rattle.kpn_text.proofs.Common.{◌≡◌, ℕ, ◌<◌, ◌^◌, true, List, [], ◌∷◌, length, Option, Some, None, Ok, subst, arith, AllByRecursion, Growth, Policy, MAX_LEVELS, Keyword, Language, Mark, Token, Lexeme, HasSpelling, lexemes_of, IsName, has_keyword, has_mark, operator_mark, NameBytes, ExpressionNode, numeral, variable, element, minus, negation, complement, binary, conditional, StatementNode, assign, store, receive, send, choice, loop, Statements, no_statements, statement, Table, Declaration, array, table, ProcessNode, Literal, plain, negated, Item, channel, source, sink, instance, NetworkNode, Description, expanded, IsProperTerm, IsProperStatement, AreProper, AreNames, IsProperTable, IsProperDeclaration, IsProperProcess, IsProperLiteral, IsProperItem, IsProperLimit, IsProperNetwork, IsProper}
 use Rattle.kpn_text_tokens.specs.declared.tokens.Keyword.TheVariants as keyword
-use Rattle.kpn_text_tokens.specs.declared.tokens.Language.{Language}
 use Rattle.kpn_text_tokens.specs.declared.tokens.Language.TheVariants as language
-use Rattle.kpn_text_tokens.specs.declared.tokens.Mark.{Mark}
 use Rattle.kpn_text_tokens.specs.declared.tokens.Mark.TheVariants as mark
-use Rattle.kpn_text_tokens.specs.declared.tokens.Token.{Token}
 use Rattle.kpn_text_tokens.specs.declared.tokens.Token.TheVariants as token
-use Rattle.kpn_text_tokens.specs.declared.tokens.Lexeme.{Lexeme}
-use Rattle.kpn_text_tokens.specs.Laws.{HasSpelling}
-use Rattle.kpn_text_tokens.specs.Lexing.{lexemes_of}
-use Rattle.kpn_text_tokens.specs.Rules.{IsName}
-use Rattle.kpn_text_tokens.specs.Spelling.{has_keyword, has_mark}
-use Rattle.kpn_text_grammar.specs.Operators.{operator_mark}
 use Rattle.kpn_text_tokens.proofs.NumeralLaws.{number_small as is_below}
 use Rattle.kpn_text_tokens.proofs.WithoutPlaces.{read_spelled}
-use Rattle.kpn_text_grammar.specs.Syntax.{NameBytes, ExpressionNode, numeral, variable, element, minus, negation, complement, binary, conditional, StatementNode, assign, store, receive, send, choice, loop, Statements, no_statements, statement, Table, Declaration, array, table, ProcessNode, Literal, plain, negated, Item, channel, source, sink, instance, NetworkNode, Description}
-use Rattle.kpn_text_expand.specs.Expanding.{expanded}
 use Rattle.kpn_text_expand.proofs.Spelled.{expanded_spelled}
 use Rattle.kpn_text_grammar.specs.Spelling.{kinds, SpellsTight, as_number, as_name, as_element, as_minus, as_negation, as_complement, in_parentheses, as_sides, as_conditional, as_binary, SpellsStatement, as_assignment, as_store, as_read, as_write, as_if, as_while, SpellsStatements, nothing, one_more, SpellsElse, left_out, behind_else, SpellsSecond, with_braces, as_branch, SpellsProcess, SpellsAll, IsDescription, spell_all, spell_further, spell_list, spell_name, spell_names, spell_table, spell_declaration, spell_part, spell_later_part, spell_parts, spell_literal, spell_values, spell_item, spell_limit, spell_policy, spell_growth, spell_network, spell_language}
-use Rattle.kpn_text.specs.Proper.{IsProperTerm, IsProperStatement, AreProper, AreNames, IsProperTable, IsProperDeclaration, IsProperProcess, IsProperLiteral, IsProperItem, IsProperLimit, IsProperNetwork, IsProper}
 use Rattle.kpn_text.proofs.ReadingLaws.{are_tokens}
 
 -- each of the tokens can be spelled

@@ -1,39 +1,15 @@
 -- What the phases return is what the text spells.
-use Rattle.std.proofs.Common.{◌≡◌, ℕ, suc, ◌≤◌, Bool, true, false, if◌then◌else◌, List, [], ◌∷◌, length, Option, Some, None, Result, Ok, Err, refl, sym, ap, ◌∙◌, subst, arith}
+use Rattle.kpn_text.proofs.Common.{◌≡◌, ℕ, suc, ◌≤◌, Bool, true, false, if◌then◌else◌, List, [], ◌∷◌, length, Option, Some, None, Result, Ok, Err, refl, sym, ap, ◌∙◌, subst, arith, All-nil, All-cons, All-head, All-tail, MAX_TEXT_BYTES, MAX_LEVELS, Parts, IsProgram, ProgramFault, NetFault, Tables, IsNetwork, LexFault, Language, Lexeme, Token, lexemes_of, scan, language_of, expanded, GrammarFault, Description, IsDescription, kinds, description_of, NameError, Document, document_named, SpellsDocument, IsOfSomeText, AreNamed, ok_is, then_ok, went, are_named, resolved_each}
 use Rattle.std.specs.Prelude.{nat_lt, All}
-use Rattle.std.proofs.lemmas.List.Elements.{All-nil, All-cons, All-head, All-tail}
-use Rattle.kpn_limits.specs.declared.TheConstants.{MAX_TEXT_BYTES, MAX_LEVELS}
 use Rattle.kpn_lang.specs.Parts as lang
-use Rattle.kpn_lang.specs.Parts.{Parts, IsProgram}
-use Rattle.kpn_lang.specs.declared.program.ProgramFault.{ProgramFault}
-use Rattle.kpn_net.specs.declared.fault.NetFault.{NetFault}
-use Rattle.kpn_net.specs.Tables.{Tables}
 use Rattle.kpn_net.specs.Faults as net
-use Rattle.kpn_net.specs.Faults.{IsNetwork}
-use Rattle.kpn_text_tokens.specs.declared.lexer.LexFault.{LexFault}
 use Rattle.kpn_text_tokens.specs.declared.lexer.LexFault.TheVariants as lex
-use Rattle.kpn_text_tokens.specs.declared.tokens.Language.{Language}
-use Rattle.kpn_text_tokens.specs.declared.tokens.Lexeme.{Lexeme}
-use Rattle.kpn_text_tokens.specs.declared.tokens.Token.{Token}
 use Rattle.kpn_text_tokens.specs.Laws.{tokens_in, tokens_of}
-use Rattle.kpn_text_tokens.specs.Lexing.{lexemes_of, scan}
-use Rattle.kpn_text_tokens.specs.Opening.{language_of}
 use Rattle.kpn_text_tokens.proofs.TokenLaws.{short_text}
-use Rattle.kpn_text_expand.specs.Expanding.{expanded}
-use Rattle.kpn_text_grammar.specs.declared.fault.GrammarFault.{GrammarFault}
-use Rattle.kpn_text_grammar.specs.Syntax.{Description}
-use Rattle.kpn_text_grammar.specs.Spelling.{IsDescription, kinds}
-use Rattle.kpn_text_grammar.specs.Reading.{description_of}
 use Rattle.kpn_text_grammar.proofs.DescriptionLaws.{description_takes, description_again}
-use Rattle.kpn_text_names.specs.Fault.{NameError}
 use Rattle.kpn_text_names.specs.Named.{Named, resolve}
-use Rattle.kpn_text.specs.Document.{Document, document_named}
-use Rattle.kpn_text.specs.Spells.{SpellsDocument, IsOfSomeText}
-use Rattle.kpn_text_names.specs.NetworkNames.{AreNamed}
 use Rattle.kpn_text.specs.Phases.{Cause, in_tokens, in_constants, in_grammar, in_names, phase, unless, meant_in, programs_cause, program_or, network_cause, or_cause, tables_cause, document_in, document_of}
 use Rattle.kpn_text_tokens.specs.Results.{and_then}
-use Rattle.kpn_text_names.proofs.Chains.{ok_is, then_ok, went}
-use Rattle.kpn_text_names.proofs.Counts.{are_named, resolved_each}
 use Rattle.kpn_text.proofs.Parameters.{AreCounted, resolved_has}
 use Rattle.kpn_text.proofs.TokenPhases.{phase_ok, phase_err, meant_right}
 

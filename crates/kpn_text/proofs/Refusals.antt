@@ -1,31 +1,13 @@
 -- What each phase answers to the text: the document that it spells, or the fault with which it is refused.
-use Rattle.std.proofs.Common.{◌≡◌, ℕ, List, length, Option, Some, None, Result, Ok, Err, sym, ap, ◌∙◌, subst, inl, inr}
+use Rattle.kpn_text.proofs.Common.{◌≡◌, ℕ, List, length, Option, Some, None, Result, Ok, Err, sym, ap, ◌∙◌, subst, inl, inr, Tables, IsNetwork, Lexeme, Language, language_of, OkOr, GrammarFault, Description, description_of, unknown, double, NetworkNames, TextFault, names_in, Document, document_named, document_with, SpellsDocument, grammar_fault, name_fault, Cause, in_grammar, in_names, unless, meant_in, tables_cause, document_of, TellsWhatIsFound, Refuses, TellsCause, TextReads, TokensFail}
 use Rattle.std.specs.Prelude.{◌⊎◌}
-use Rattle.kpn_net.specs.Tables.{Tables}
-use Rattle.kpn_net.specs.Faults.{IsNetwork}
-use Rattle.kpn_text_tokens.specs.declared.tokens.Lexeme.{Lexeme}
-use Rattle.kpn_text_tokens.specs.declared.tokens.Language.{Language}
-use Rattle.kpn_text_tokens.specs.Opening.{language_of}
-use Rattle.kpn_text_tokens.specs.Results.{OkOr}
-use Rattle.kpn_text_grammar.specs.declared.fault.GrammarFault.{GrammarFault}
 use Rattle.kpn_text_grammar.specs.declared.fault.GrammarFault.TheVariants as grammar
-use Rattle.kpn_text_grammar.specs.Syntax.{Description}
 use Rattle.kpn_text_grammar.specs.Reading as reading
-use Rattle.kpn_text_grammar.specs.Reading.{description_of}
 use Rattle.kpn_text_names.specs.declared.fault.NameFault.{NameFault}
 use Rattle.kpn_text_names.specs.declared.fault.NameFault.TheVariants as name
 use Rattle.kpn_text_names.specs.Fault as names
-use Rattle.kpn_text_names.specs.Fault.{unknown, double}
 use Rattle.kpn_text_names.specs.Named.{Named, resolve}
-use Rattle.kpn_text_names.specs.declared.network_names.NetworkNames.{NetworkNames}
-use Rattle.kpn_text.specs.declared.fault.TextFault.{TextFault}
 use Rattle.kpn_text.specs.declared.fault.TextFault.TheVariants as text
-use Rattle.kpn_text_names.specs.NetworkNames.{names_in}
-use Rattle.kpn_text.specs.Document.{Document, document_named, document_with}
-use Rattle.kpn_text.specs.Spells.{SpellsDocument}
-use Rattle.kpn_text.specs.Fault.{grammar_fault, name_fault}
-use Rattle.kpn_text.specs.Phases.{Cause, in_grammar, in_names, unless, meant_in, tables_cause, document_of, TellsWhatIsFound, Refuses}
-use Rattle.kpn_text.specs.Making.{TellsCause, TextReads, TokensFail}
 use Rattle.kpn_text.proofs.ReadingLaws.{ArePhases, last_phases, one_document, read_spelled, refused_names, refused_tokens, refused_tree, spelled_reads}
 
 found_out : (bytes : List ℕ) (cause : Cause) (f : TextFault) → document_of bytes ≡ Err cause

@@ -1,38 +1,11 @@
 -- The canonical text of a document that a text spells also spells it, if it is short enough.
-use Rattle.std.proofs.Common.{◌≡◌, ℕ, ◌<◌, ◌≤◌, Bool, true, false, cond, List, [], ◌∷◌, ◌++◌, length, map, Some, None, Result, Ok, Err, refl, sym, ap, subst, ◌∙◌, arith}
+use Rattle.kpn_text.proofs.Common.{◌≡◌, ℕ, ◌<◌, ◌≤◌, Bool, true, false, cond, List, [], ◌∷◌, ◌++◌, length, map, Some, None, Result, Ok, Err, refl, sym, ap, subst, ◌∙◌, arith, AllByRecursion, nat_tests, MAX_CAPACITY, MAX_TEXT_BYTES, MAX_LEVELS, IsProgram, Growth, Policy, Tables, IsNetwork, Language, tokens_of, language_of, Table, Declaration, array, table, ProcessNode, Description, spell_description, TableIsWithin, DeclarationIsWithin, ProcessIsWithin, IsWithinLimits, IsDescription, and_then, BlocksAreTheTree, growth_of, limit_of, policy_of, Settings, settings_of, Wiring, wiring, shared_of, SharedTables, NetworkNames, DescriptionIsRead, LanguageIsTold, ReadDescriptionsAreProper, growth_named, limit_named, policy_named, description_named, IsProperTable, IsProperDeclaration, IsProperProcess, IsProperLimit, IsProperItem, IsProper, description_text, names_in, Document, canonical_text, SpellsDocument, IsOfSomeText, ok_is, went, then_ok}
 use Rattle.std.specs.Prelude.{nat_lt, All, IfOk}
-use Rattle.std.specs.List.{AllByRecursion}
-use Rattle.std.proofs.lemmas.Bool.Decides.{nat_tests}
-use Rattle.kpn_limits.specs.declared.TheConstants.{MAX_CAPACITY, MAX_TEXT_BYTES, MAX_LEVELS}
-use Rattle.kpn_lang.specs.Parts.{IsProgram}
-use Rattle.kpn_net.specs.declared.tables.Growth.{Growth}
 use Rattle.kpn_net.specs.declared.tables.Growth.TheVariants as growth
-use Rattle.kpn_net.specs.declared.tables.Policy.{Policy}
 use Rattle.kpn_net.specs.declared.tables.Policy.TheVariants as policy
-use Rattle.kpn_net.specs.Tables.{Tables}
-use Rattle.kpn_net.specs.Faults.{IsNetwork}
-use Rattle.kpn_text_tokens.specs.declared.tokens.Language.{Language}
-use Rattle.kpn_text_tokens.specs.Laws.{tokens_of}
-use Rattle.kpn_text_tokens.specs.Opening.{language_of}
 use Rattle.kpn_text_grammar.specs.Laws.{CanonicalSpells}
-use Rattle.kpn_text_grammar.specs.Syntax.{Table, Declaration, array, table, ProcessNode, Description}
-use Rattle.kpn_text_grammar.specs.Spelling.{spell_description, TableIsWithin, DeclarationIsWithin, ProcessIsWithin, IsWithinLimits, IsDescription}
-use Rattle.kpn_text_tokens.specs.Results.{and_then}
-use Rattle.kpn_text_names.specs.Laws.{BlocksAreTheTree}
-use Rattle.kpn_text_names.specs.Network.{growth_of, limit_of, policy_of, Settings, settings_of, Wiring, wiring}
 use Rattle.kpn_text_names.specs.Named.{Programs, programs_of, Named, named_with, resolve}
-use Rattle.kpn_text_names.specs.Shared.{shared_of}
-use Rattle.kpn_text_names.specs.declared.tables.SharedTables.{SharedTables}
-use Rattle.kpn_text_names.specs.declared.network_names.NetworkNames.{NetworkNames}
-use Rattle.kpn_text.specs.CanonicalLaws.{DescriptionIsRead, LanguageIsTold, ReadDescriptionsAreProper}
-use Rattle.kpn_text.specs.Named.{growth_named, limit_named, policy_named, description_named}
-use Rattle.kpn_text.specs.Proper.{IsProperTable, IsProperDeclaration, IsProperProcess, IsProperLimit, IsProperItem, IsProper}
-use Rattle.kpn_text.specs.Text.{description_text}
-use Rattle.kpn_text_names.specs.NetworkNames.{names_in}
-use Rattle.kpn_text.specs.Document.{Document, canonical_text}
-use Rattle.kpn_text.specs.Spells.{SpellsDocument, IsOfSomeText}
 use Rattle.kpn_text.specs.Again.{PrintedTextSpells}
-use Rattle.kpn_text_names.proofs.Chains.{ok_is, went, then_ok}
 use Rattle.kpn_text_expand.specs.Plain.{ArePlain}
 use Rattle.kpn_text_expand.proofs.Plain.{plain_kept}
 use Rattle.kpn_text_expand.proofs.PlainSpelling.{spelling_plain}

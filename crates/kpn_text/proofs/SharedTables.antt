@@ -1,24 +1,7 @@
 -- Tables and processes as they are printed name what they do in the text.
-use Rattle.std.proofs.Common.{◌≡◌, ℕ, zero, suc, ◌<◌, ◌≤◌, List, [], ◌∷◌, ◌++◌, length, map, Result, Ok, refl, sym, ap, subst, ◌∙◌, append_assoc, append-nil, arith}
-use Rattle.std.specs.List.{AllByRecursion}
-use Rattle.std.specs.Str.{bytes_eq}
-use Rattle.std.specs.Prelude.{slice_index_or}
-use Rattle.std.proofs.lemmas.List.{length-map}
+use Rattle.kpn_text.proofs.Common.{◌≡◌, ℕ, zero, suc, ◌<◌, ◌≤◌, List, [], ◌∷◌, ◌++◌, length, map, Result, Ok, refl, sym, ap, subst, ◌∙◌, append_assoc, append-nil, arith, AllByRecursion, bytes_eq, slice_index_or, length-map, Language, literal_value, Table, ProcessNode, TableIsWithin, and_then, SharedTables, declared, named_program, Programs, with_named_process, programs_of, paired, named_table, table_values, head_scope, declare, no_shared, with_shared, shared_of, table_named, ok_is, went, same_after, declared_is}
 use Rattle.std.proofs.lemmas.List.Quantifiers.{position-Some}
-use Rattle.kpn_text_tokens.specs.declared.tokens.Language.{Language}
-use Rattle.kpn_text_grammar.specs.Syntax.{literal_value, Table, ProcessNode}
-use Rattle.kpn_text_grammar.specs.Spelling.{TableIsWithin}
-use Rattle.kpn_text_tokens.specs.Results.{and_then}
-use Rattle.kpn_text_names.specs.declared.tables.SharedTables.{SharedTables}
 use Rattle.kpn_text_names.specs.Fault.{NameError, each}
-use Rattle.kpn_text_names.specs.Names.{declared}
-use Rattle.kpn_text_names.specs.Named.{named_program, Programs, with_named_process, programs_of}
-use Rattle.kpn_text_names.specs.NetworkNames.{paired, named_table}
-use Rattle.kpn_text_names.specs.Scope.{table_values, head_scope, declare}
-use Rattle.kpn_text_names.specs.Shared.{no_shared, with_shared, shared_of}
-use Rattle.kpn_text.specs.Named.{table_named}
-use Rattle.kpn_text_names.proofs.Chains.{ok_is, went, same_after}
-use Rattle.kpn_text_names.proofs.KnownNames.{declared_is}
 use Rattle.kpn_text.proofs.NamedItems.{literals_back}
 use Rattle.kpn_text.proofs.SortedDeclarations.{plain_table, sorted, sorted_same}
 use Rattle.kpn_text.proofs.UsedTables.{AreFilled}

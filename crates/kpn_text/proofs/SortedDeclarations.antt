@@ -1,19 +1,9 @@
 -- Declarations as they are printed, the arrays and then the tables, declare what they do in the order of the text.
-use Rattle.std.proofs.Common.{◌≡◌, ℕ, Bool, true, false, cond, ◌||◌, List, [], ◌∷◌, ◌++◌, length, map, Result, Ok, Err, refl, sym, ap, ◌∙◌}
-use Rattle.std.specs.Str.{bytes_eq}
+use Rattle.kpn_text.proofs.Common.{◌≡◌, ℕ, Bool, true, false, cond, ◌||◌, List, [], ◌∷◌, ◌++◌, length, map, Result, Ok, Err, refl, sym, ap, ◌∙◌, bytes_eq, length-map, NameBytes, Literal, literal_value, Table, Declaration, array, table, NameScope, KnownTables, has, with_name, with_row, is_port, is_taken, with_table, with_declaration, declared_name, declare, literal_named, bind_assoc, same_after}
 use Rattle.std.specs.Cmp.Lexicographic.{bytes_decides}
-use Rattle.std.proofs.lemmas.List.{length-map}
 use Rattle.std.proofs.lemmas.List.Folds.{list_any-append}
-use Rattle.kpn_text_grammar.specs.Syntax.{NameBytes, Literal, literal_value, Table, Declaration, array, table}
 use Rattle.kpn_text_tokens.specs.Results.{and_then}
-use Rattle.kpn_text_names.specs.declared.scope.NameScope.{NameScope}
-use Rattle.kpn_text_names.specs.declared.tables.KnownTables.{KnownTables}
 use Rattle.kpn_text_names.specs.Fault.{NameError, double, each}
-use Rattle.kpn_text_names.specs.Names.{has, with_name}
-use Rattle.kpn_text_names.specs.Rows.{with_row}
-use Rattle.kpn_text_names.specs.Scope.{is_port, is_taken, with_table, with_declaration, declared_name, declare}
-use Rattle.kpn_text.specs.Named.{literal_named}
-use Rattle.kpn_text_names.proofs.Chains.{bind_assoc, same_after}
 use Rattle.kpn_text.proofs.NamedItems.{literals_back}
 
 -- ---- as they are printed

@@ -1,19 +1,6 @@
 -- Rows one after another, each with a cell at least: the place of a row gives its name back.
-use Rattle.std.proofs.Common.{◌≡◌, ℕ, zero, suc, ◌+◌, ◌<◌, ◌≤◌, true, false, cond, List, [], ◌∷◌, ◌++◌, length, map, Option, Some, None, Ok, refl, sym, ap, subst, ◌∙◌, arith}
-use Rattle.std.specs.Prelude.{nat_eq}
-use Rattle.std.proofs.lemmas.Bool.Decides.{nat_tests}
-use Rattle.std.proofs.lemmas.List.{get_or-map, length-map}
-use Rattle.kpn_text_grammar.specs.Syntax.{NameBytes}
-use Rattle.kpn_text_names.specs.declared.rows.Row.{Row}
-use Rattle.kpn_text_names.specs.declared.scope.NameScope.{NameScope}
-use Rattle.kpn_text_names.specs.Names.{known, number_of, or_unknown, name_at}
-use Rattle.kpn_text_names.specs.NetworkNames.{paired, named_row, process_names_in}
-use Rattle.kpn_text_names.specs.Rows.{within_64_bits, row_at}
-use Rattle.kpn_text_names.specs.Scope.{behind_arrays, row_of, array_row, table_row}
+use Rattle.kpn_text.proofs.Common.{◌≡◌, ℕ, zero, suc, ◌+◌, ◌<◌, ◌≤◌, true, false, cond, List, [], ◌∷◌, ◌++◌, length, map, Option, Some, None, Ok, refl, sym, ap, subst, ◌∙◌, arith, nat_eq, nat_tests, get_or-map, length-map, NameBytes, Row, NameScope, known, number_of, or_unknown, name_at, paired, named_row, process_names_in, within_64_bits, row_at, behind_arrays, row_of, array_row, table_row, row_name_or, ok_is, went, known_named}
 use Rattle.kpn_text_names.specs.Scope as scope
-use Rattle.kpn_text.specs.Named.{row_name_or}
-use Rattle.kpn_text_names.proofs.Chains.{ok_is, went}
-use Rattle.kpn_text_names.proofs.KnownNames.{known_named}
 use Rattle.kpn_text.proofs.NamedBodies.{RowsAgree}
 
 -- ---- rows from one place to another

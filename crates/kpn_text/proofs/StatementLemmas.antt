@@ -1,15 +1,9 @@
 -- How printed statements are read.
-use Rattle.std.proofs.Common.{ℕ, suc, List, ◌∷◌, ◌++◌, codes, refl}
+use Rattle.kpn_text.proofs.Common.{ℕ, suc, List, ◌∷◌, ◌++◌, codes, refl, Language, Token, ExpressionNode, StatementNode, assign, store, receive, send, choice, loop, Statements, no_statements, statement, spell_expression, spell_else, spell_statement, spell_statements, IsProperTerm, IsProperStatement, AreProper, indented, whole_text, otherwise_text, statement_text, statements_text, unindented_text}
 use Rattle.kpn_text_tokens.specs.declared.tokens.Keyword.TheVariants as keyword
-use Rattle.kpn_text_tokens.specs.declared.tokens.Language.{Language}
 use Rattle.kpn_text_tokens.specs.declared.tokens.Language.TheVariants as language
 use Rattle.kpn_text_tokens.specs.declared.tokens.Mark.TheVariants as mark
-use Rattle.kpn_text_tokens.specs.declared.tokens.Token.{Token}
 use Rattle.kpn_text_tokens.specs.declared.tokens.Token.TheVariants as token
-use Rattle.kpn_text_grammar.specs.Syntax.{ExpressionNode, StatementNode, assign, store, receive, send, choice, loop, Statements, no_statements, statement}
-use Rattle.kpn_text_grammar.specs.Spelling.{spell_expression, spell_else, spell_statement, spell_statements}
-use Rattle.kpn_text.specs.Proper.{IsProperTerm, IsProperStatement, AreProper}
-use Rattle.kpn_text.specs.Text.{indented, whole_text, otherwise_text, statement_text, statements_text, unindented_text}
 use Rattle.kpn_text.proofs.TokenLemmas.{IsReadAs, name_read, mark_read, keyword_read, space_read, line_feed_read, indent_read}
 use Rattle.kpn_text.proofs.TermLemmas.{whole_read}
 

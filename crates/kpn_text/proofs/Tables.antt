@@ -1,34 +1,13 @@
 -- Names in tables, and tables taken item by item.
-use Rattle.std.proofs.Common.{◌≡◌, ℕ, zero, suc, ◌+◌, ◌<◌, ◌≤◌, List, [], ◌∷◌, ◌++◌, length, map, get_or, drop, Option, Some, None, Result, Ok, Err, refl, sym, ap, ◌∙◌, subst, append_assoc, append-nil, add-one, arith, length-append, inl, inr}
+use Rattle.kpn_text.proofs.Common.{◌≡◌, ℕ, zero, suc, ◌+◌, ◌<◌, ◌≤◌, List, [], ◌∷◌, ◌++◌, length, map, get_or, drop, Option, Some, None, Result, Ok, Err, refl, sym, ap, ◌∙◌, subst, append_assoc, append-nil, add-one, arith, length-append, inl, inr, drop-cons, drop_all, Cause, in_network, network_cause, or_cause, programs_cause, program_or, tables_cause, ProgramFault, Parts, first_fault, NetFault, ChannelSpec, Growth, Policy, Instance, Tables, first_network_fault, TextFault, ProgramParts, named_seen, program_seen, NetworkNames, ProcessNames, SharedTables, named_table, names_in, process_names_in, paired, net_fault, TellsCause, program_told}
 use Rattle.std.specs.Prelude.{slice_get, IfSome, IfNone, ◌⊎◌}
-use Rattle.std.proofs.Math.Seq.{drop-cons}
-use Rattle.std.proofs.lemmas.List.{drop_all}
 use Rattle.std.proofs.lemmas.Option.{slice_get-get_or, get_or_from_slice_get, slice_get_within}
-use Rattle.kpn_text.specs.Phases.{Cause, in_network, network_cause, or_cause, programs_cause, program_or, tables_cause}
-use Rattle.kpn_lang.specs.declared.program.ProgramFault.{ProgramFault}
 use Rattle.kpn_lang.specs.declared.program.ProgramFault.TheVariants as rule
-use Rattle.kpn_lang.specs.Parts.{Parts, first_fault}
-use Rattle.kpn_net.specs.declared.fault.NetFault.{NetFault}
 use Rattle.kpn_net.specs.declared.fault.NetFault.TheVariants as net
-use Rattle.kpn_net.specs.declared.tables.ChannelSpec.{ChannelSpec}
-use Rattle.kpn_net.specs.declared.tables.Growth.{Growth}
-use Rattle.kpn_net.specs.declared.tables.Policy.{Policy}
-use Rattle.kpn_net.specs.declared.tables.Instance.{Instance}
 use Rattle.kpn_net.specs.View.{tables_with}
-use Rattle.kpn_net.specs.Tables.{Tables}
-use Rattle.kpn_net.specs.Faults.{first_network_fault}
-use Rattle.kpn_text.specs.declared.fault.TextFault.{TextFault}
 use Rattle.kpn_text.specs.declared.fault.TextFault.TheVariants as text
 use Rattle.kpn_text_names.specs.declared.document.Named.{Named}
-use Rattle.kpn_text_names.specs.declared.process.ProgramParts.{ProgramParts}
-use Rattle.kpn_text_names.specs.View.{named_seen, program_seen}
-use Rattle.kpn_text_names.specs.declared.network_names.NetworkNames.{NetworkNames}
-use Rattle.kpn_text_names.specs.declared.network_names.ProcessNames.{ProcessNames}
 use Rattle.kpn_text_names.specs.declared.network_names.NamedTable.{NamedTable}
-use Rattle.kpn_text_names.specs.declared.tables.SharedTables.{SharedTables}
-use Rattle.kpn_text_names.specs.NetworkNames.{named_table, names_in, process_names_in, paired}
-use Rattle.kpn_text.specs.Fault.{net_fault}
-use Rattle.kpn_text.specs.Making.{TellsCause, program_told}
 
 -- past its end nothing of a list remains
 drop_from_none : {A : Type 0} (xs : List A) (place : ℕ) → slice_get xs place ≡ None → drop place xs ≡ []

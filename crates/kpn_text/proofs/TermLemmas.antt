@@ -1,28 +1,10 @@
 -- How a printed expression is read.
-use Rattle.std.proofs.Common.{◌≡◌, ℕ, ◌<◌, ◌^◌, Bool, true, false, ◌&&◌, if◌then◌else◌, nat_le, List, [], ◌∷◌, ◌++◌, codes, length, refl, arith}
-use Rattle.std.specs.Char.{is_ascii_digit}
-use Rattle.std.specs.Fmt.{decimal}
-use Rattle.std.specs.List.{list_all, starts_with}
-use Rattle.std.specs.Prelude.{nat_eq}
-use Rattle.std.proofs.lemmas.Bool.{and_parts}
-use Rattle.std.proofs.lemmas.Bool.Decides.{nat_tests}
-use Rattle.kpn_text_tokens.specs.declared.tokens.Language.{Language}
+use Rattle.kpn_text.proofs.Common.{◌≡◌, ℕ, ◌<◌, ◌^◌, Bool, true, false, ◌&&◌, if◌then◌else◌, nat_le, List, [], ◌∷◌, ◌++◌, codes, length, refl, arith, is_ascii_digit, decimal, list_all, starts_with, nat_eq, and_parts, nat_tests, Language, Token, begins_name, IsName, MarkEnds, has_mark, mark_bytes, decimal_spelled, NameBytes, ExpressionNode, numeral, variable, element, minus, negation, complement, binary, conditional, operator_mark, tightness, left_side, right_side, LOOSEST, OPERAND, spell_term, spell_tight, spell_expression, EndsWord, HasBrackets, IsProperTerm, needs_no_parentheses, open_text, close_text, term_text, whole_text}
 use Rattle.kpn_text_tokens.specs.declared.tokens.Language.TheVariants as language
 use Rattle.kpn_text_tokens.specs.declared.tokens.Mark.TheVariants as mark
-use Rattle.kpn_text_tokens.specs.declared.tokens.Token.{Token}
 use Rattle.kpn_text_tokens.specs.declared.tokens.Token.TheVariants as token
-use Rattle.kpn_text_tokens.specs.Lexing.{begins_name}
-use Rattle.kpn_text_tokens.specs.Rules.{IsName, MarkEnds}
-use Rattle.kpn_text_tokens.specs.Spelling.{has_mark, mark_bytes}
-use Rattle.kpn_text_tokens.proofs.WithoutPlaces.{decimal_spelled}
 use Rattle.kpn_lang.specs.declared.syntax.Op.{Op}
 use Rattle.kpn_lang.specs.declared.syntax.Op.TheVariants as operator
-use Rattle.kpn_text_grammar.specs.Syntax.{NameBytes, ExpressionNode, numeral, variable, element, minus, negation, complement, binary, conditional}
-use Rattle.kpn_text_grammar.specs.Operators.{operator_mark, tightness, left_side, right_side, LOOSEST, OPERAND}
-use Rattle.kpn_text_grammar.specs.Spelling.{spell_term, spell_tight, spell_expression}
-use Rattle.kpn_text.specs.CanonicalLaws.{EndsWord}
-use Rattle.kpn_text.specs.Proper.{HasBrackets, IsProperTerm}
-use Rattle.kpn_text.specs.Text.{needs_no_parentheses, open_text, close_text, term_text, whole_text}
 use Rattle.kpn_text.proofs.TokenLemmas.{IsReadAs, name_read, number_read, mark_read, space_read}
 
 -- a space comes after each operator

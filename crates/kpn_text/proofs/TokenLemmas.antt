@@ -1,21 +1,8 @@
 -- How the pieces of a printed text are read: tokens and white space in front of what follows.
-use Rattle.std.proofs.Common.{◌≡◌, ℕ, zero, suc, ◌<◌, ◌^◌, true, List, [], ◌∷◌, ◌++◌, codes, Some, refl, ap, ◌∙◌}
-use Rattle.std.specs.Char.{is_ascii_digit}
-use Rattle.std.specs.Fmt.{decimal}
+use Rattle.kpn_text.proofs.Common.{◌≡◌, ℕ, zero, suc, ◌<◌, ◌^◌, true, List, [], ◌∷◌, ◌++◌, codes, Some, refl, ap, ◌∙◌, is_ascii_digit, decimal, Keyword, Language, Mark, Token, cons_token, tokens_of, begins_name, is_white_space, EndsBefore, IsName, IsSpelled, MarkEnds, has_keyword, has_mark, keyword_bytes, mark_bytes, decimal_spelled, empty_text, spelled_token, white_dropped, EndsWord, indented}
 use Rattle.std.proofs.lemmas.Bool.{or_parts}
-use Rattle.kpn_text_tokens.specs.declared.tokens.Keyword.{Keyword}
-use Rattle.kpn_text_tokens.specs.declared.tokens.Language.{Language}
 use Rattle.kpn_text_tokens.specs.declared.tokens.Language.TheVariants as language
-use Rattle.kpn_text_tokens.specs.declared.tokens.Mark.{Mark}
-use Rattle.kpn_text_tokens.specs.declared.tokens.Token.{Token}
 use Rattle.kpn_text_tokens.specs.declared.tokens.Token.TheVariants as token
-use Rattle.kpn_text_tokens.specs.Laws.{cons_token, tokens_of}
-use Rattle.kpn_text_tokens.specs.Lexing.{begins_name, is_white_space}
-use Rattle.kpn_text_tokens.specs.Rules.{EndsBefore, IsName, IsSpelled, MarkEnds}
-use Rattle.kpn_text_tokens.specs.Spelling.{has_keyword, has_mark, keyword_bytes, mark_bytes}
-use Rattle.kpn_text_tokens.proofs.WithoutPlaces.{decimal_spelled, empty_text, spelled_token, white_dropped}
-use Rattle.kpn_text.specs.CanonicalLaws.{EndsWord}
-use Rattle.kpn_text.specs.Text.{indented}
 
 -- the text is read as the tokens in a language
 pub record IsReadAs (l : Language) (text : List ℕ) (tokens : List Token) : Type 0 where

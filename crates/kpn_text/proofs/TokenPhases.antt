@@ -1,20 +1,13 @@
 -- The tokens that a text stands for, phase by phase.
 use Rattle.std.proofs.Common.{◌≡◌, ◌⊎◌, ℕ, List, length, Result, Ok, Err, refl, sym, ap, ◌∙◌, inl, inr}
 use Rattle.std.specs.Global.{Global}
-use Rattle.kpn_text_tokens.specs.declared.lexer.LexFault.{LexFault}
+use Rattle.kpn_text.proofs.Common.{LexFault, Language, Lexeme, lexemes_of, expanded, TextFault, lex_fault, expand_fault, TokensFail}
 use Rattle.kpn_text_tokens.specs.declared.lexer.LexFault.TheVariants as lex
-use Rattle.kpn_text_tokens.specs.declared.tokens.Language.{Language}
-use Rattle.kpn_text_tokens.specs.declared.tokens.Lexeme.{Lexeme}
 use Rattle.kpn_text_tokens.specs.Lexing as lexing
-use Rattle.kpn_text_tokens.specs.Lexing.{lexemes_of}
 use Rattle.kpn_text_tokens.specs.Results.{and_then}
 use Rattle.kpn_text_expand.specs.declared.fault.ExpandFault.{ExpandFault}
 use Rattle.kpn_text_expand.specs.declared.fault.ExpandFault.TheVariants as expand
-use Rattle.kpn_text_expand.specs.Expanding.{expanded}
 use Rattle.kpn_text_expand.specs.Results.{Fails}
-use Rattle.kpn_text.specs.declared.fault.TextFault.{TextFault}
-use Rattle.kpn_text.specs.Fault.{lex_fault, expand_fault}
-use Rattle.kpn_text.specs.Making.{TokensFail}
 use Rattle.kpn_text.specs.Phases.{Cause, in_tokens, in_constants, phase, meant_in}
 
 pub phase_ok : {A D E : Type 0} (cause : E → Cause) (r : Result A E) (k : A → Result D Cause) (a : A) → r ≡ Ok a

@@ -1,15 +1,6 @@
 -- The shared tables that a body names stand after the tables of its process.
-use Rattle.std.proofs.Common.{◌≡◌, ℕ, ◌+◌, ◌≤◌, Bool, true, false, cond, List, [], ◌∷◌, ◌++◌, length, Option, Some, None, refl, sym, ap, ◌∙◌, append_assoc, append-nil, length-append, arith}
-use Rattle.std.specs.List.{flat_map}
+use Rattle.kpn_text.proofs.Common.{◌≡◌, ℕ, ◌+◌, ◌≤◌, Bool, true, false, cond, List, [], ◌∷◌, ◌++◌, length, Option, Some, None, refl, sym, ap, ◌∙◌, append_assoc, append-nil, length-append, arith, flat_map, NameBytes, ExpressionNode, numeral, variable, element, minus, negation, complement, binary, conditional, StatementNode, assign, store, receive, send, choice, loop, Statements, no_statements, statement, NamedRow, SharedTables, KnownTables, has, number_of, within_64_bits, values_at, with_use, with_use_if, with_name_used, used_in_term, used_in_statement, used_in, with_name_new}
 use Rattle.std.proofs.lemmas.List.Concat.{flat_map-append}
-use Rattle.kpn_text_grammar.specs.Syntax.{NameBytes, ExpressionNode, numeral, variable, element, minus, negation, complement, binary, conditional, StatementNode, assign, store, receive, send, choice, loop, Statements, no_statements, statement}
-use Rattle.kpn_text_names.specs.declared.network_names.NamedRow.{NamedRow}
-use Rattle.kpn_text_names.specs.declared.tables.SharedTables.{SharedTables}
-use Rattle.kpn_text_names.specs.declared.tables.KnownTables.{KnownTables}
-use Rattle.kpn_text_names.specs.Names.{has, number_of}
-use Rattle.kpn_text_names.specs.Rows.{within_64_bits}
-use Rattle.kpn_text_names.specs.Shared.{values_at, with_use, with_use_if, with_name_used, used_in_term, used_in_statement, used_in}
-use Rattle.kpn_text_names.proofs.KnownNames.{with_name_new}
 use Rattle.kpn_text.proofs.DeclaredRows.{Laid, rows_of, laid_more, rows_more, end_more}
 
 -- each shared table has a value at least

@@ -1,18 +1,11 @@
 -- Tokens that can be spelled.
-use Rattle.std.proofs.Common.{◌≡◌, ℕ, ◌<◌, ◌^◌, true, List, [], ◌∷◌, ◌++◌, codes, refl, arith}
+use Rattle.kpn_text_expand.proofs.Common.{◌≡◌, ℕ, ◌<◌, ◌^◌, true, List, [], ◌∷◌, ◌++◌, codes, refl, arith, AllByRecursion, Lexeme, Mark, Token, HasSpelling, has_mark, mark_bytes, kinds}
 use Rattle.std.specs.Fmt.{decimal}
-use Rattle.std.specs.List.{AllByRecursion}
 use Rattle.kpn_text_tokens.specs.declared.tokens.Keyword.TheVariants as keyword
 use Rattle.kpn_text_tokens.specs.declared.tokens.Language.TheVariants as language
-use Rattle.kpn_text_tokens.specs.declared.tokens.Lexeme.{Lexeme}
-use Rattle.kpn_text_tokens.specs.declared.tokens.Mark.{Mark}
 use Rattle.kpn_text_tokens.specs.declared.tokens.Mark.TheVariants as mark
-use Rattle.kpn_text_tokens.specs.declared.tokens.Token.{Token}
 use Rattle.kpn_text_tokens.specs.declared.tokens.Token.TheVariants as token
-use Rattle.kpn_text_tokens.specs.Laws.{HasSpelling}
-use Rattle.kpn_text_tokens.specs.Spelling.{has_mark, mark_bytes}
 use Rattle.kpn_text_tokens.proofs.WithoutPlaces.{decimal_spelled}
-use Rattle.kpn_text_grammar.specs.Spelling.{kinds}
 
 abbrev pub CanBe : Token → Type 0
 CanBe = HasSpelling language.Two

@@ -1,9 +1,5 @@
 -- Tokens that go by one after the other.
-use Rattle.std.proofs.Common.{◌≡◌, List, [], ◌∷◌, ◌++◌, sym, ap, ◌∙◌, append_assoc, append-nil}
-use Rattle.std.specs.List.{AllByRecursion, fold}
-use Rattle.kpn_text_tokens.specs.declared.tokens.Lexeme.{Lexeme}
-use Rattle.kpn_text_tokens.specs.declared.tokens.Token.{Token}
-use Rattle.kpn_text_grammar.specs.Spelling.{kinds}
+use Rattle.kpn_text_expand.proofs.Common.{◌≡◌, List, [], ◌∷◌, ◌++◌, sym, ap, ◌∙◌, append_assoc, append-nil, AllByRecursion, fold, Lexeme, Token, kinds}
 
 -- each token stays
 module _ {S : Type 0} (step : S → Lexeme → S) (seen : S → List Lexeme) (Goes : S → List Lexeme → Type 0)

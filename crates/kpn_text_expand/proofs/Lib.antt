@@ -1,4 +1,5 @@
 -- The lemmas. Other crates may cite the public ones.
+pub mod Common
 mod Steps
 mod Folds
 mod Can

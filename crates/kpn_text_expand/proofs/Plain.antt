@@ -1,23 +1,13 @@
 -- Tokens without a short form stand for themselves.
 use Rattle.std.proofs.Common.{◌≡◌, ℕ, ◌⊎◌, inl, inr, Bool, true, false, ◌-◌, if◌then◌else◌, List, [], ◌∷◌, ◌++◌, None, Ok, refl, sym, ap, ◌∙◌, append_assoc, append-nil}
-use Rattle.std.specs.Prelude.{◌==◌}
+use Rattle.kpn_text_expand.proofs.Common.{◌==◌, Language, Lexeme, Token, kinds, Constants, ConstantPlace, Constant, all_forms, expanded, without_forms, with_sums, IsPlain, ArePlain}
 use Rattle.kpn_text_tokens.specs.declared.tokens.Keyword.TheVariants as keyword
-use Rattle.kpn_text_tokens.specs.declared.tokens.Language.{Language}
 use Rattle.kpn_text_tokens.specs.declared.tokens.Language.TheVariants as language
-use Rattle.kpn_text_tokens.specs.declared.tokens.Lexeme.{Lexeme}
 use Rattle.kpn_text_tokens.specs.declared.tokens.Mark.TheVariants as mark
-use Rattle.kpn_text_tokens.specs.declared.tokens.Token.{Token}
 use Rattle.kpn_text_tokens.specs.declared.tokens.Token.TheVariants as token
 use Rattle.kpn_text_tokens.specs.Results.{and_then}
-use Rattle.kpn_text_grammar.specs.Spelling.{kinds}
-use Rattle.kpn_text_expand.specs.declared.constants.Constants.{Constants}
-use Rattle.kpn_text_expand.specs.declared.constants.ConstantPlace.{ConstantPlace}
 use Rattle.kpn_text_expand.specs.declared.constants.ConstantPlace.TheVariants as place
-use Rattle.kpn_text_expand.specs.declared.declaration.Constant.{Constant}
 use Rattle.kpn_text_expand.specs.Constants.{at_first, gone_past, meant, meant_as, token_passed, step_at, step, steps, value_in, value_of, own_or_shared, finished, finished_at, without_constants}
-use Rattle.kpn_text_expand.specs.Expanding.{all_forms, expanded, without_forms}
-use Rattle.kpn_text_expand.specs.Sums.{with_sums}
-use Rattle.kpn_text_expand.specs.Plain.{IsPlain, ArePlain}
 use Rattle.kpn_text_expand.specs.Results.{each}
 use Rattle.kpn_text_expand.proofs.PlainCapacities.{capacities_kept}
 use Rattle.kpn_text_expand.proofs.PlainSums.{sums_kept}

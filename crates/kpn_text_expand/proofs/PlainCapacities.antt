@@ -1,16 +1,10 @@
 -- Tokens without a capacity at the head of a network stay.
-use Rattle.std.proofs.Common.{◌≡◌, true, List, [], ◌∷◌, ◌++◌, refl}
+use Rattle.kpn_text_expand.proofs.Common.{◌≡◌, true, List, [], ◌∷◌, ◌++◌, refl, Lexeme, Token, kinds, Capacities, HeadSpot, ArePlain, IsPlain, capless}
 use Rattle.kpn_text_tokens.specs.declared.tokens.Keyword.TheVariants as keyword
-use Rattle.kpn_text_tokens.specs.declared.tokens.Lexeme.{Lexeme}
 use Rattle.kpn_text_tokens.specs.declared.tokens.Mark.TheVariants as mark
-use Rattle.kpn_text_tokens.specs.declared.tokens.Token.{Token}
 use Rattle.kpn_text_tokens.specs.declared.tokens.Token.TheVariants as token
-use Rattle.kpn_text_grammar.specs.Spelling.{kinds}
-use Rattle.kpn_text_expand.specs.declared.capacities.Capacities.{Capacities}
-use Rattle.kpn_text_expand.specs.declared.capacities.HeadSpot.{HeadSpot}
 use Rattle.kpn_text_expand.specs.declared.capacities.HeadSpot.TheVariants as spot
 use Rattle.kpn_text_expand.specs.Capacities.{at_first, token_kept, step, step_at, with_capacities}
-use Rattle.kpn_text_expand.specs.Plain.{ArePlain, IsPlain, capless}
 use Rattle.kpn_text_expand.proofs.Folds.{all_seen}
 
 -- no capacity has stood at the head

@@ -1,21 +1,14 @@
 -- The spelling of a tree has no short form.
-use Rattle.std.proofs.Common.{◌≡◌, ℕ, nat_le, Bool, true, false, if◌then◌else◌, List, [], ◌∷◌, Option, Some, None, refl}
-use Rattle.std.proofs.lemmas.Bool.{cond_both}
+use Rattle.kpn_text_expand.proofs.Common.{◌≡◌, ℕ, nat_le, Bool, true, false, if◌then◌else◌, List, [], ◌∷◌, Option, Some, None, refl, cond_both, Language, Token, NameBytes, ExpressionNode, numeral, variable, element, minus, negation, complement, binary, conditional, StatementNode, assign, store, receive, send, choice, loop, Statements, no_statements, statement, Literal, plain, negated, Table, Declaration, array, table, ProcessNode, Item, channel, source, sink, instance, NetworkNode, Description, spell_term, spell_tight, spell_expression, spell_else, spell_statement, spell_statements, spell_all, spell_further, spell_list, spell_name, spell_names, spell_literal, spell_table, spell_declaration, spell_part, spell_later_part, spell_parts, spell_process, spell_values, spell_item, spell_setting, spell_limit, spell_policy, spell_growth, spell_network, spell_description, IsPlain, ArePlain, capless, not_assigned, changes}
 use Rattle.kpn_lang.specs.declared.syntax.Op.{Op}
 use Rattle.kpn_text_tokens.specs.declared.tokens.Keyword.{Keyword}
 use Rattle.kpn_text_tokens.specs.declared.tokens.Keyword.TheVariants as keyword
-use Rattle.kpn_text_tokens.specs.declared.tokens.Language.{Language}
 use Rattle.kpn_text_tokens.specs.declared.tokens.Language.TheVariants as language
 use Rattle.kpn_text_tokens.specs.declared.tokens.Mark.TheVariants as mark
-use Rattle.kpn_text_tokens.specs.declared.tokens.Token.{Token}
 use Rattle.kpn_text_tokens.specs.declared.tokens.Token.TheVariants as token
 use Rattle.kpn_text_grammar.specs.Operators.{left_side, operator_mark, right_side, tightness, LOOSEST, OPERAND}
-use Rattle.kpn_text_grammar.specs.Syntax.{NameBytes, ExpressionNode, numeral, variable, element, minus, negation, complement, binary, conditional, StatementNode, assign, store, receive, send, choice, loop, Statements, no_statements, statement, Literal, plain, negated, Table, Declaration, array, table, ProcessNode, Item, channel, source, sink, instance, NetworkNode, Description}
-use Rattle.kpn_text_grammar.specs.Spelling.{spell_term, spell_tight, spell_expression, spell_else, spell_statement, spell_statements, spell_all, spell_further, spell_list, spell_name, spell_names, spell_literal, spell_table, spell_declaration, spell_part, spell_later_part, spell_parts, spell_process, spell_values, spell_item, spell_setting, spell_limit, spell_policy, spell_growth, spell_network, spell_description}
 use Rattle.kpn_text_grammar.specs.Words.{growth_word, policy_word}
 use Rattle.kpn_text_expand.specs.declared.capacities.HeadSpot.TheVariants as spot
-use Rattle.kpn_text_expand.specs.Plain.{IsPlain, ArePlain, capless, not_assigned}
-use Rattle.kpn_text_expand.specs.Sums.{changes}
 use Rattle.kpn_text_expand.proofs.PlainCapacities.{first_none}
 
 -- tokens in front of others add no short form

@@ -1,20 +1,10 @@
 -- Tokens without an assignment with an operator stay.
 use Rattle.std.proofs.Common.{◌≡◌, ℕ, ◌-◌, Bool, true, false, if◌then◌else◌, List, [], ◌∷◌, ◌++◌, refl, sym, ap, ◌∙◌}
 use Rattle.std.specs.Prelude.{◌==◌, ◌&&◌, not, length}
-use Rattle.std.specs.List.{fold}
-use Rattle.std.proofs.lemmas.Bool.{cond_both}
-use Rattle.kpn_text_tokens.specs.declared.tokens.Lexeme.{Lexeme}
-use Rattle.kpn_text_tokens.specs.declared.tokens.Mark.{Mark}
+use Rattle.kpn_text_expand.proofs.Common.{fold, cond_both, Lexeme, Mark, Token, mark_bytes, kinds, Sums, SumSpot, lexeme, ArePlain, IsPlain, not_assigned}
 use Rattle.kpn_text_tokens.specs.declared.tokens.Mark.TheVariants as mark
-use Rattle.kpn_text_tokens.specs.declared.tokens.Token.{Token}
 use Rattle.kpn_text_tokens.specs.declared.tokens.Token.TheVariants as token
-use Rattle.kpn_text_tokens.specs.Spelling.{mark_bytes}
-use Rattle.kpn_text_grammar.specs.Spelling.{kinds}
-use Rattle.kpn_text_expand.specs.declared.sums.Sums.{Sums}
-use Rattle.kpn_text_expand.specs.declared.sums.SumSpot.{SumSpot}
 use Rattle.kpn_text_expand.specs.declared.sums.SumSpot.TheVariants as spot
-use Rattle.kpn_text_expand.specs.Constants.{lexeme}
-use Rattle.kpn_text_expand.specs.Plain.{ArePlain, IsPlain, not_assigned}
 use Rattle.kpn_text_expand.specs.Sums.{at_first, changes, follows, is_assign, value_opened, token_passed, spot_behind, spot_in_index, step, step_at, with_mark, with_sums}
 use Rattle.kpn_text_expand.proofs.Folds.{all_seen}
 

@@ -1,32 +1,19 @@
 -- What stands for tokens that can be spelled can be spelled.
-use Rattle.std.proofs.Common.{◌≡◌, ℕ, ℤ, ◌<◌, ◌≤◌, ◌^◌, Bool, true, false, nat_le, if◌then◌else◌, List, [], ◌∷◌, ◌++◌, Option, Some, None, Result, Ok, subst, arith}
+use Rattle.kpn_text_expand.proofs.Common.{◌≡◌, ℕ, ℤ, ◌<◌, ◌≤◌, ◌^◌, Bool, true, false, nat_le, if◌then◌else◌, List, [], ◌∷◌, ◌++◌, Option, Some, None, Result, Ok, subst, arith, AllByRecursion, find, cond_both, leb-true, Language, Lexeme, Token, HasSpelling, kinds, NameBytes, Constants, ConstantPlace, Constant, ExpandFault, all_forms, expanded, without_forms}
 use Rattle.std.specs.Prelude.{◌-◌, ◌==◌, unsigned_abs, option_map}
-use Rattle.std.specs.List.{AllByRecursion, find}
 use Rattle.std.specs.Str.{bytes_eq}
-use Rattle.std.proofs.lemmas.Bool.{cond_both, leb-true}
 use Rattle.kpn_text_tokens.specs.declared.tokens.TheConstants.{MAX_NUMBER}
 use Rattle.kpn_text_tokens.specs.declared.tokens.Keyword.TheVariants as keyword
-use Rattle.kpn_text_tokens.specs.declared.tokens.Language.{Language}
 use Rattle.kpn_text_tokens.specs.declared.tokens.Language.TheVariants as language
-use Rattle.kpn_text_tokens.specs.declared.tokens.Lexeme.{Lexeme}
 use Rattle.kpn_text_tokens.specs.declared.tokens.Mark.TheVariants as mark
-use Rattle.kpn_text_tokens.specs.declared.tokens.Token.{Token}
 use Rattle.kpn_text_tokens.specs.declared.tokens.Token.TheVariants as token
-use Rattle.kpn_text_tokens.specs.Laws.{HasSpelling}
-use Rattle.kpn_text_grammar.specs.Spelling.{kinds}
-use Rattle.kpn_text_grammar.specs.Syntax.{NameBytes}
 use Rattle.kpn_text_names.specs.Constant.{constant_value}
 use Rattle.kpn_text_names.proofs.Chains.{ok_is, went}
-use Rattle.kpn_text_expand.specs.declared.constants.Constants.{Constants}
-use Rattle.kpn_text_expand.specs.declared.constants.ConstantPlace.{ConstantPlace}
 use Rattle.kpn_text_expand.specs.declared.constants.ConstantPlace.TheVariants as place
-use Rattle.kpn_text_expand.specs.declared.declaration.Constant.{Constant}
 use Rattle.kpn_text_expand.specs.declared.declaration.Value.{Value}
-use Rattle.kpn_text_expand.specs.declared.fault.ExpandFault.{ExpandFault}
 use Rattle.kpn_text_expand.specs.Declaration.{value_written, written_if, or_no_number, value_computed, tree, nameless, first_byte, number, name_declared, behind_assign, declared}
 use Rattle.kpn_text_expand.specs.Constants.{at_first, gone_past, token_kept, token_passed, meant, meant_as, value_in, value_of, own_or_shared, value_tokens, with_constant, with_declared, step_at, step, steps, finished_at, finished, without_constants}
 use Rattle.kpn_text_expand.specs.Results.{each}
-use Rattle.kpn_text_expand.specs.Expanding.{all_forms, expanded, without_forms}
 use Rattle.kpn_text_expand.proofs.Can.{CanBe, Spelled, both_spelled, mark_can, number_can}
 use Rattle.kpn_text_expand.proofs.SpelledCapacities.{capacities_spelled}
 use Rattle.kpn_text_expand.proofs.SpelledSums.{sums_spelled}

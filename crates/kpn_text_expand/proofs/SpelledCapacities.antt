@@ -1,14 +1,9 @@
 -- What the capacity of a network stands for can be spelled, if it can.
-use Rattle.std.proofs.Common.{List, [], ◌∷◌}
+use Rattle.kpn_text_expand.proofs.Common.{List, [], ◌∷◌, Lexeme, Token, Capacities, HeadSpot, with_token}
 use Rattle.kpn_text_tokens.specs.declared.tokens.Keyword.TheVariants as keyword
-use Rattle.kpn_text_tokens.specs.declared.tokens.Lexeme.{Lexeme}
 use Rattle.kpn_text_tokens.specs.declared.tokens.Mark.TheVariants as mark
-use Rattle.kpn_text_tokens.specs.declared.tokens.Token.{Token}
 use Rattle.kpn_text_tokens.specs.declared.tokens.Token.TheVariants as token
-use Rattle.kpn_text_expand.specs.declared.capacities.Capacities.{Capacities}
-use Rattle.kpn_text_expand.specs.declared.capacities.HeadSpot.{HeadSpot}
 use Rattle.kpn_text_expand.specs.declared.capacities.HeadSpot.TheVariants as spot
-use Rattle.kpn_text_expand.specs.Constants.{with_token}
 use Rattle.kpn_text_expand.specs.Capacities.{at_first, entry_filled, token_kept, refused, step, step_at, with_capacities}
 use Rattle.kpn_text_expand.proofs.Folds.{all_hold}
 use Rattle.kpn_text_expand.proofs.Can.{CanBe, Spelled, both_spelled, cap_can, nothing_can}

@@ -1,13 +1,7 @@
 -- What assignments with an operator stand for can be spelled, if they can.
-use Rattle.std.proofs.Common.{ℕ, List, [], ◌∷◌, Option, Some, None}
-use Rattle.std.proofs.lemmas.Bool.{cond_both}
-use Rattle.kpn_text_tokens.specs.declared.tokens.Lexeme.{Lexeme}
-use Rattle.kpn_text_tokens.specs.declared.tokens.Mark.{Mark}
+use Rattle.kpn_text_expand.proofs.Common.{ℕ, List, [], ◌∷◌, Option, Some, None, cond_both, Lexeme, Mark, Token, Sums, SumSpot}
 use Rattle.kpn_text_tokens.specs.declared.tokens.Mark.TheVariants as mark
-use Rattle.kpn_text_tokens.specs.declared.tokens.Token.{Token}
 use Rattle.kpn_text_tokens.specs.declared.tokens.Token.TheVariants as token
-use Rattle.kpn_text_expand.specs.declared.sums.Sums.{Sums}
-use Rattle.kpn_text_expand.specs.declared.sums.SumSpot.{SumSpot}
 use Rattle.kpn_text_expand.specs.declared.sums.SumSpot.TheVariants as spot
 use Rattle.kpn_text_expand.specs.Sums.{aimed, at_first, changes, follows, token_kept, open_behind, value_opened, token_passed, spot_in_index, step, step_at, valued_by, with_mark, with_sums}
 use Rattle.kpn_text_expand.proofs.Folds.{all_hold}

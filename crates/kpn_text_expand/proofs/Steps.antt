@@ -2,9 +2,8 @@
 use Rattle.std.proofs.Common.{◌≡◌, ℕ, suc, ◌+◌, ◌<◌, ◌≤◌, List, length, drop, get_or, Result, Ok, refl, add-one}
 use Rattle.std.proofs.Math.Seq.{drop-cons}
 use Rattle.std.proofs.lemmas.List.{drop_all}
-use Rattle.kpn_text_tokens.specs.declared.tokens.Lexeme.{Lexeme}
+use Rattle.kpn_text_expand.proofs.Common.{Lexeme, ExpandFault}
 use Rattle.kpn_text_tokens.specs.Results.{and_then}
-use Rattle.kpn_text_expand.specs.declared.fault.ExpandFault.{ExpandFault}
 use Rattle.kpn_text_expand.specs.declared.fault.ExpandFault.TheVariants as fault
 use Rattle.kpn_text_expand.specs.Results.{Fails, each}
 

@@ -1,15 +1,8 @@
 -- Arrays and tables: what is read is spelled so, and what is spelled so is read.
-use Rattle.std.proofs.Common.{◌≡◌, ℕ, zero, suc, ◌==◌, ◌<◌, Bool, true, false, cond, List, ◌∷◌, Some, None, refl, sym, ap, arith}
-use Rattle.std.specs.List.{AllByRecursion}
-use Rattle.std.proofs.lemmas.Bool.{ne_eqb}
-use Rattle.kpn_text_tokens.specs.declared.tokens.Token.{Token}
+use Rattle.kpn_text_grammar.proofs.Common.{◌≡◌, ℕ, zero, suc, ◌==◌, ◌<◌, Bool, true, false, cond, List, ◌∷◌, Some, None, refl, sym, ap, arith, AllByRecursion, ne_eqb, Token, Scope, Table, Declaration, array, table, spell_all, spell_list, spell_literal, spell_table, spell_declaration, TableIsWithin, DeclarationIsWithin, is_keyword}
 use Rattle.kpn_text_tokens.specs.declared.tokens.Token.TheVariants as token
 use Rattle.kpn_text_tokens.specs.declared.tokens.Mark.TheVariants as mark_
 use Rattle.kpn_text_tokens.specs.declared.tokens.Keyword.TheVariants as keyword_
-use Rattle.kpn_text_grammar.specs.declared.parser.Scope.{Scope}
-use Rattle.kpn_text_grammar.specs.Syntax.{Table, Declaration, array, table}
-use Rattle.kpn_text_grammar.specs.Spelling.{spell_all, spell_list, spell_literal, spell_table, spell_declaration, TableIsWithin, DeclarationIsWithin}
-use Rattle.kpn_text_grammar.specs.TokenTests.{is_keyword}
 use Rattle.kpn_text_grammar.specs.Reading.{all_of, token_size, read_as, array_behind, table_behind, declaration_behind, declaration, declares, shared_table}
 use Rattle.kpn_text_grammar.proofs.Lookahead.{lower, Anything}
 use Rattle.kpn_text_grammar.proofs.Readers.{this_mark, this_keyword, Reads, HasRoom, spell_number, Unless, done, behind, value, bind, reads, a_name, a_token, Arms, arm, no_arm, Begun, by_token, token_longer, Exactly, exactly, begins, Elements, each_of}

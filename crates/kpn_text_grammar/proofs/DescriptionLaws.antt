@@ -1,22 +1,11 @@
 -- A whole description: it is read if and only if the tokens spell it within the limits, and tokens spell one at most.
-use Rattle.std.proofs.Common.{◌≡◌, ◌<◌, ◌≤◌, ◌+◌, ◌-◌, inl, inr, ℕ, zero, suc, List, [], ◌∷◌, ◌++◌, map, take, Some, Result, Ok, Err, refl, sym, ap, subst, ◌∙◌, arith}
-use Rattle.std.proofs.lemmas.List.{map-append}
-use Rattle.kpn_limits.specs.declared.TheConstants.{MAX_LEVELS}
-use Rattle.kpn_text_tokens.specs.declared.tokens.Language.{Language}
+use Rattle.kpn_text_grammar.proofs.Common.{◌≡◌, ◌<◌, ◌≤◌, ◌+◌, ◌-◌, inl, inr, ℕ, zero, suc, List, [], ◌∷◌, ◌++◌, map, take, Some, Result, Ok, Err, refl, sym, ap, subst, ◌∙◌, arith, map-append, MAX_LEVELS, Language, Lexeme, Token, GrammarFault, Scope, Table, ProcessNode, NetworkNode, Description, kinds, SpellsAll, SpellsProcess, spell_all, spell_table, spell_language, spell_network, IsWithinLimits, IsDescriptionWithin, IsDescription, is_keyword, fault_place, IsFaultAt}
 use Rattle.kpn_text_tokens.specs.declared.tokens.Language.TheVariants as language
-use Rattle.kpn_text_tokens.specs.declared.tokens.Lexeme.{Lexeme}
 use Rattle.kpn_text_tokens.specs.declared.tokens.Mark.TheVariants as mark_
-use Rattle.kpn_text_tokens.specs.declared.tokens.Token.{Token}
 use Rattle.kpn_text_tokens.specs.declared.tokens.Keyword.TheVariants as keyword_
-use Rattle.kpn_text_grammar.specs.declared.fault.GrammarFault.{GrammarFault}
 use Rattle.kpn_text_grammar.specs.declared.fault.GrammarFault.TheVariants as fault
-use Rattle.kpn_text_grammar.specs.declared.parser.Scope.{Scope}
-use Rattle.kpn_text_grammar.specs.Syntax.{Table, ProcessNode, NetworkNode, Description}
-use Rattle.kpn_text_grammar.specs.Spelling.{kinds, SpellsAll, SpellsProcess, spell_all, spell_table, spell_language, spell_network, IsWithinLimits, IsDescriptionWithin, IsDescription}
 use Rattle.kpn_text_tokens.specs.Results.{and_then}
-use Rattle.kpn_text_grammar.specs.TokenTests.{is_keyword}
 use Rattle.kpn_text_grammar.specs.Reading.{Read, language_at, all_of, shared_table, processes, network, at_end, contents, description, description_of}
-use Rattle.kpn_text_grammar.specs.Laws.{fault_place, IsFaultAt}
 use Rattle.kpn_text_grammar.proofs.Lookahead.{lower, Anything, ahead, Keeps, Refuses, Look, returns, refuses, forgets, nests, kept_too}
 use Rattle.kpn_text_grammar.proofs.Steps.{bind_ok, bound, moved, no_value, ok_is}
 use Rattle.kpn_text_grammar.proofs.Readers.{Step, passes_on, this_keyword, this_mark, this_two, no_step, Row, ReadsBy, HasRoom, Unless, behind, bind, mapped, reads_by, begins}

@@ -1,15 +1,9 @@
 -- Lists of names and the head of a process: what is read is spelled so, and what is spelled so is read.
-use Rattle.std.proofs.Common.{◌≡◌, ◌⊎◌, inl, inr, ◌+◌, ◌<◌, Bool, false, List, [], ◌∷◌, length, refl, sym, ap, subst, ◌∙◌, arith}
-use Rattle.kpn_text_tokens.specs.declared.tokens.Token.{Token}
+use Rattle.kpn_text_grammar.proofs.Common.{◌≡◌, ◌⊎◌, inl, inr, ◌+◌, ◌<◌, Bool, false, List, [], ◌∷◌, length, refl, sym, ap, subst, ◌∙◌, arith, Token, Scope, NameBytes, spell_names, spell_later_part, spell_parts, is_mark, is_name, and_then}
 use Rattle.kpn_text_tokens.specs.declared.tokens.Token.TheVariants as token
 use Rattle.kpn_text_tokens.specs.declared.tokens.Mark.TheVariants as mark_
 use Rattle.kpn_text_tokens.specs.declared.tokens.Keyword.TheVariants as keyword_
-use Rattle.kpn_text_grammar.specs.declared.parser.Scope.{Scope}
-use Rattle.kpn_text_grammar.specs.Syntax.{NameBytes}
-use Rattle.kpn_text_grammar.specs.Spelling.{spell_names, spell_later_part, spell_parts}
-use Rattle.kpn_text_grammar.specs.TokenTests.{is_mark, is_name}
 use Rattle.kpn_text_grammar.specs.Reading.{next, name, separated, optional_names, HeadParts, after_outs, outs_or_pars, after_ins, parts_behind, parts}
-use Rattle.kpn_text_tokens.specs.Results.{and_then}
 use Rattle.kpn_text_grammar.proofs.Lookahead.{lower}
 use Rattle.kpn_text_grammar.proofs.Readers.{this_mark, this_keyword, Row, Reads, HasRoom, Free, Unless, as_seen, done, behind, bind, As, recast, reads, choice, optional, mapped, maybe_some, a_name, Arms, arm, no_arm, rearm, Begun, by_token, Exactly, exactly, begins, either, spell_either, Either, Some_of, some_of, is_comma, with_commas}
 

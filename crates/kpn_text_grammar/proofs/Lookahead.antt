@@ -1,14 +1,9 @@
 -- How far a reader looks, and what leads on from where it refuses. It is compared with a deeper one, which has a level
 -- more: what it returned that one returns too, in front of all tokens that may follow; where it refuses a token, that
 -- one does too, and reads on from there with some other tokens.
-use Rattle.std.proofs.Common.{◌≡◌, ◌⊎◌, inl, inr, ℕ, zero, suc, ◌+◌, ◌-◌, ◌<◌, ◌≤◌, Bool, true, false, cond, List, [], ◌∷◌, ◌++◌, length, Option, Some, None, Ok, Err, refl, sym, ap, subst, ◌∙◌, append_assoc, arith}
-use Rattle.kpn_text_tokens.specs.declared.tokens.Lexeme.{Lexeme}
-use Rattle.kpn_text_tokens.specs.declared.tokens.Token.{Token}
+use Rattle.kpn_text_grammar.proofs.Common.{◌≡◌, ◌⊎◌, inl, inr, ℕ, zero, suc, ◌+◌, ◌-◌, ◌<◌, ◌≤◌, Bool, true, false, cond, List, [], ◌∷◌, ◌++◌, length, Option, Some, None, Ok, Err, refl, sym, ap, subst, ◌∙◌, append_assoc, arith, Lexeme, Token, Scope, fault_place, kinds}
 use Rattle.kpn_text_grammar.specs.declared.fault.GrammarFault.TheVariants as fault
-use Rattle.kpn_text_grammar.specs.declared.parser.Scope.{Scope}
 use Rattle.kpn_text_tokens.specs.Results.{and_then}
-use Rattle.kpn_text_grammar.specs.Laws.{fault_place}
-use Rattle.kpn_text_grammar.specs.Spelling.{kinds}
 use Rattle.kpn_text_grammar.specs.Reading.{Read, first_is, next, many}
 
 -- the same with a level less

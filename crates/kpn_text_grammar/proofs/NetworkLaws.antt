@@ -1,20 +1,10 @@
 -- The items of a network and the network: what is read is spelled so, and what is spelled so is read.
-use Rattle.std.proofs.Common.{◌≡◌, ◌⊎◌, inl, inr, Bool, true, false, List, [], ◌∷◌, Option, Some, None, refl, sym, ap}
-use Rattle.kpn_text_tokens.specs.declared.tokens.Lexeme.{Lexeme}
-use Rattle.kpn_text_tokens.specs.declared.tokens.Token.{Token}
+use Rattle.kpn_text_grammar.proofs.Common.{◌≡◌, ◌⊎◌, inl, inr, Bool, true, false, List, [], ◌∷◌, Option, Some, None, refl, sym, ap, Lexeme, Token, Keyword, Growth, Policy, Scope, NameBytes, Literal, Item, channel, source, sink, instance, growth_word, growth_spelled, policy_word, policy_spelled, spell_all, spell_values, spell_call, spell_item, spell_setting, spell_limit, spell_policy, spell_growth, spell_network, is_keyword}
 use Rattle.kpn_text_tokens.specs.declared.tokens.Token.TheVariants as token
 use Rattle.kpn_text_tokens.specs.declared.tokens.Mark.TheVariants as mark_
-use Rattle.kpn_text_tokens.specs.declared.tokens.Keyword.{Keyword}
 use Rattle.kpn_text_tokens.specs.declared.tokens.Keyword.TheVariants as keyword_
-use Rattle.kpn_net.specs.declared.tables.Growth.{Growth}
-use Rattle.kpn_net.specs.declared.tables.Policy.{Policy}
 use Rattle.kpn_net.specs.declared.tables.Growth.TheVariants as growth
 use Rattle.kpn_net.specs.declared.tables.Policy.TheVariants as policy
-use Rattle.kpn_text_grammar.specs.declared.parser.Scope.{Scope}
-use Rattle.kpn_text_grammar.specs.Syntax.{NameBytes, Literal, Item, channel, source, sink, instance}
-use Rattle.kpn_text_grammar.specs.Words.{growth_word, growth_spelled, policy_word, policy_spelled}
-use Rattle.kpn_text_grammar.specs.Spelling.{spell_all, spell_values, spell_call, spell_item, spell_setting, spell_limit, spell_policy, spell_growth, spell_network}
-use Rattle.kpn_text_grammar.specs.TokenTests.{is_keyword}
 use Rattle.kpn_text_grammar.specs.Reading.{Read, all_of, number, stands_in_block, with_capacity, optional_values, call, instance_behind, item_behind, item, token_word, read_as, setting, network}
 use Rattle.kpn_text_grammar.proofs.Steps.{is_keyword_same, Spells, growths_spelled, policies_spelled}
 use Rattle.kpn_text_grammar.proofs.Lookahead.{lower, Anything}

@@ -1,14 +1,8 @@
 -- Processes: what is read is spelled so, and what is spelled so is read.
-use Rattle.std.proofs.Common.{◌<◌, ◌-◌, suc, subst, List, ◌∷◌, length, refl, sym, ap, arith}
-use Rattle.std.specs.List.{AllByRecursion}
-use Rattle.kpn_text_tokens.specs.declared.tokens.Token.{Token}
+use Rattle.kpn_text_grammar.proofs.Common.{◌<◌, ◌-◌, suc, subst, List, ◌∷◌, length, refl, sym, ap, arith, AllByRecursion, Token, Scope, ProcessNode, SpellsAll, SpellsProcess, spell_all, spell_declaration, ProcessIsWithin, is_keyword}
 use Rattle.kpn_text_tokens.specs.declared.tokens.Token.TheVariants as token
 use Rattle.kpn_text_tokens.specs.declared.tokens.Mark.TheVariants as mark_
 use Rattle.kpn_text_tokens.specs.declared.tokens.Keyword.TheVariants as keyword_
-use Rattle.kpn_text_grammar.specs.declared.parser.Scope.{Scope}
-use Rattle.kpn_text_grammar.specs.Syntax.{ProcessNode}
-use Rattle.kpn_text_grammar.specs.Spelling.{SpellsAll, SpellsProcess, spell_all, spell_declaration, ProcessIsWithin}
-use Rattle.kpn_text_grammar.specs.TokenTests.{is_keyword}
 use Rattle.kpn_text_grammar.specs.Reading.{many, process, numbered_process, processes}
 use Rattle.kpn_text_grammar.proofs.Lookahead.{lower, Anything}
 use Rattle.kpn_text_grammar.proofs.Readers.{this_mark, this_keyword, ReadsBy, HasRoom, Unless, behind, value, bind, mapped, reads_by, a_name, begins, Elements, each_by}

@@ -1,22 +1,10 @@
 -- Readers in a row: the laws of a reader, and how the laws of its steps make them. A reader is a chain of steps, a choice
 -- by the token at the front, or a repetition, as `Reading` defines it.
-use Rattle.std.proofs.Common.{◌≡◌, ◌⊎◌, inl, inr, ℕ, zero, suc, ◌+◌, ◌<◌, ◌≤◌, Bool, true, false, cond, List, [], ◌∷◌, ◌++◌, length, map, codes, Option, Some, None, Result, Ok, Err, refl, sym, ap, subst, ◌∙◌, arith}
-use Rattle.std.proofs.lemmas.List.{length-map}
-use Rattle.std.specs.List.{AllByRecursion}
-use Rattle.kpn_text_tokens.specs.declared.tokens.Lexeme.{Lexeme}
-use Rattle.kpn_text_tokens.specs.declared.tokens.Token.{Token}
+use Rattle.kpn_text_grammar.proofs.Common.{◌≡◌, ◌⊎◌, inl, inr, ℕ, zero, suc, ◌+◌, ◌<◌, ◌≤◌, Bool, true, false, cond, List, [], ◌∷◌, ◌++◌, length, map, codes, Option, Some, None, Result, Ok, Err, refl, sym, ap, subst, ◌∙◌, arith, length-map, AllByRecursion, Lexeme, Token, Mark, Keyword, GrammarFault, Scope, kinds, spell_all, spell_further, spell_list, spell_name, SpellsAll, operator_mark, NameBytes, is_mark, is_keyword, is_number_two}
 use Rattle.kpn_text_tokens.specs.declared.tokens.Token.TheVariants as token
-use Rattle.kpn_text_tokens.specs.declared.tokens.Mark.{Mark}
 use Rattle.kpn_text_tokens.specs.declared.tokens.Mark.TheVariants as mark_
-use Rattle.kpn_text_tokens.specs.declared.tokens.Keyword.{Keyword}
-use Rattle.kpn_text_grammar.specs.declared.fault.GrammarFault.{GrammarFault}
 use Rattle.kpn_text_grammar.specs.declared.fault.GrammarFault.TheVariants as fault
-use Rattle.kpn_text_grammar.specs.declared.parser.Scope.{Scope}
 use Rattle.kpn_lang.specs.declared.syntax.Op.TheVariants as op
-use Rattle.kpn_text_grammar.specs.Spelling.{kinds, spell_all, spell_further, spell_list, spell_name, SpellsAll}
-use Rattle.kpn_text_grammar.specs.Operators.{operator_mark}
-use Rattle.kpn_text_grammar.specs.Syntax.{NameBytes}
-use Rattle.kpn_text_grammar.specs.TokenTests.{is_mark, is_keyword, is_number_two}
 use Rattle.kpn_text_tokens.specs.Results.{and_then}
 use Rattle.kpn_text_grammar.specs.Reading.{Read, first_is, next, mark, keyword, two, read_as, token_name, name, token_number, number, token_operator, operator, or_fault_at, many, further, separated}
 use Rattle.kpn_text_grammar.proofs.Lookahead.{lower, Anything, Fills, Looks, Looking, Starts, CanStart, Meets, bind_fills, bind_looks, by_first, deep_looks, done_fills, done_looks, done_meets, each_looks, fills_as, first_looks, first_reads, kept_too, looks_same, pick_looks, start_fills, with_others}

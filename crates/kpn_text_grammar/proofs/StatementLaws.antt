@@ -1,21 +1,14 @@
 -- What is read as a statement or a block is spelled so and nests no deeper than it may, and what is spelled so is read
 -- again.
-use Rattle.std.proofs.Common.{◌≡◌, ◌⊎◌, inl, inr, ℕ, zero, suc, ◌-◌, if◌then◌else◌, ◌<◌, ◌≤◌, Bool, true, false, not, ◌&&◌, List, [], ◌∷◌, ◌++◌, length, Ok, Err, refl, sym, ap, subst, ◌∙◌, arith}
-use Rattle.std.specs.List.{AllByRecursion}
-use Rattle.std.proofs.lemmas.Bool.{and_from, and_parts}
-use Rattle.kpn_text_tokens.specs.declared.tokens.Language.{Language}
+use Rattle.kpn_text_grammar.proofs.Common.{◌≡◌, ◌⊎◌, inl, inr, ℕ, zero, suc, ◌-◌, if◌then◌else◌, ◌<◌, ◌≤◌, Bool, true, false, not, ◌&&◌, List, [], ◌∷◌, ◌++◌, length, Ok, Err, refl, sym, ap, subst, ◌∙◌, arith, AllByRecursion, and_from, and_parts, Language, Lexeme, Token, Scope, is_mark, is_keyword}
 use Rattle.kpn_text_tokens.specs.declared.tokens.Language.TheVariants as language
-use Rattle.kpn_text_tokens.specs.declared.tokens.Lexeme.{Lexeme}
-use Rattle.kpn_text_tokens.specs.declared.tokens.Token.{Token}
 use Rattle.kpn_text_tokens.specs.declared.tokens.Token.TheVariants as token
 use Rattle.kpn_text_tokens.specs.declared.tokens.Mark.TheVariants as mark_
 use Rattle.kpn_text_tokens.specs.declared.tokens.Keyword.TheVariants as keyword_
 use Rattle.kpn_text_grammar.specs.declared.fault.GrammarFault.TheVariants as fault
-use Rattle.kpn_text_grammar.specs.declared.parser.Scope.{Scope}
 use Rattle.kpn_text_tokens.specs.Results.{and_then}
 use Rattle.kpn_text_grammar.specs.Syntax.{NameBytes, ExpressionNode, StatementNode, assign, store, receive, send, choice, loop, Statements, no_statements, statement, as_statements}
 use Rattle.kpn_text_grammar.specs.Spelling.{kinds, SpellsAll, SpellsStatement, as_assignment, as_store, as_read, as_write, as_if, as_while, SpellsStatements, nothing, one_more, SpellsElse, left_out, behind_else, SpellsSecond, with_braces, as_branch, begins_else, inner_levels, deepest_term, BlockIsWithin}
-use Rattle.kpn_text_grammar.specs.TokenTests.{is_mark, is_keyword}
 use Rattle.kpn_text_grammar.specs.Reading.{Read, first_is, next, mark, whole, many, is_second, assignment_behind, store_behind, target_behind, receive_behind, send_behind, else_behind, choice_behind, loop_behind, statement_behind, one_statement, declares, stands_in_block, all_of, block_behind, opened, too_deep, is_branch, branch, block, second_block}
 use Rattle.kpn_text_grammar.proofs.Lookahead.{lower, Anything, Fills, Look, nests, Looking, Looks, bind_fills, bind_looks, deep_looks, fills_as, first_looks, looks_as, looks_same}
 use Rattle.kpn_text_grammar.proofs.Steps.{bind_ok, bound, by_test, first_kind, is_keyword_same, is_mark_true, no_value, second_is_two}

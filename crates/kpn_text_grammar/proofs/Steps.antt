@@ -1,33 +1,19 @@
 -- Steps of reading: what a chain of steps returns, and the laws of the parsers of one token.
-use Rattle.std.proofs.Common.{◌≡◌, ℕ, Bool, true, false, cond, List, [], ◌∷◌, Option, Some, None, Result, Ok, Err, IfOk, refl, sym, ap, subst, ◌∙◌}
+use Rattle.kpn_text_grammar.proofs.Common.{◌≡◌, ℕ, Bool, true, false, cond, List, [], ◌∷◌, Option, Some, None, Result, Ok, Err, IfOk, refl, sym, ap, subst, ◌∙◌, eqb-true, Language, Lexeme, Token, Mark, Keyword, GrammarFault, Scope, Op, Growth, Policy, NameBytes, kinds, same_mark, same_keyword, is_mark, is_keyword, is_number_two}
 use Rattle.std.specs.Str.{bytes_eq}
-use Rattle.std.proofs.lemmas.Bool.{eqb-true}
 use Rattle.std.proofs.lemmas.Slice.Eq.{bytes_eq-Decides}
 use denote.Enum.Bare.{same_true, true_same}
-use Rattle.kpn_text_tokens.specs.declared.tokens.Language.{Language}
 use Rattle.kpn_text_tokens.specs.declared.tokens.Language.TheVariants as language
-use Rattle.kpn_text_tokens.specs.declared.tokens.Lexeme.{Lexeme}
-use Rattle.kpn_text_tokens.specs.declared.tokens.Token.{Token}
 use Rattle.kpn_text_tokens.specs.declared.tokens.Token.TheVariants as token
-use Rattle.kpn_text_tokens.specs.declared.tokens.Mark.{Mark}
 use Rattle.kpn_text_tokens.specs.contracts.tokens.Mark.{the_type as mark_type}
-use Rattle.kpn_text_tokens.specs.declared.tokens.Keyword.{Keyword}
 use Rattle.kpn_text_tokens.specs.contracts.tokens.Keyword.{the_type as keyword_type}
-use Rattle.kpn_text_grammar.specs.declared.fault.GrammarFault.{GrammarFault}
 use Rattle.kpn_text_grammar.specs.declared.fault.GrammarFault.TheVariants as fault
-use Rattle.kpn_text_grammar.specs.declared.parser.Scope.{Scope}
-use Rattle.kpn_lang.specs.declared.syntax.Op.{Op}
 use Rattle.kpn_lang.specs.declared.syntax.Op.TheVariants as op
-use Rattle.kpn_net.specs.declared.tables.Growth.{Growth}
 use Rattle.kpn_net.specs.declared.tables.Growth.TheVariants as growth
-use Rattle.kpn_net.specs.declared.tables.Policy.{Policy}
 use Rattle.kpn_net.specs.declared.tables.Policy.TheVariants as policy
-use Rattle.kpn_text_grammar.specs.Syntax.{NameBytes}
 use Rattle.kpn_text_grammar.specs.Operators.{every_operator, operator_mark, operator_of}
 use Rattle.kpn_text_grammar.specs.Words.{growth_word, growth_spelled, policy_word, policy_spelled}
-use Rattle.kpn_text_grammar.specs.Spelling.{kinds}
 use Rattle.kpn_text_tokens.specs.Results.{and_then, OkOr}
-use Rattle.kpn_text_grammar.specs.TokenTests.{same_mark, same_keyword, is_mark, is_keyword, is_number_two}
 use Rattle.kpn_text_grammar.specs.Reading.{ReadingFails, ReadingGives, first_is, is_second, next, token_operator, or_fault_at}
 use Rattle.kpn_text_tokens.proofs.Pieces.{find_passes}
 

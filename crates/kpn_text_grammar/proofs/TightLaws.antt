@@ -1,19 +1,10 @@
 -- How tight operators bind, and which of them go on behind a left side.
-use Rattle.std.proofs.Common.{◌≡◌, ℕ, suc, ◌<◌, ◌≤◌, Bool, true, false, cond, ◌&&◌, nat_le, List, [], ◌∷◌, Option, Some, None, Ok, refl, sym, ap, ◌∙◌, arith}
-use Rattle.std.proofs.lemmas.Bool.{and_from, and_parts, leb-true, le-leb, lt-leb}
-use Rattle.kpn_text_tokens.specs.declared.tokens.Language.{Language}
+use Rattle.kpn_text_grammar.proofs.Common.{◌≡◌, ℕ, suc, ◌<◌, ◌≤◌, Bool, true, false, cond, ◌&&◌, nat_le, List, [], ◌∷◌, Option, Some, None, Ok, refl, sym, ap, ◌∙◌, arith, and_from, and_parts, leb-true, le-leb, lt-leb, Language, Lexeme, Token, Scope, Op, kinds, is_mark, operator, token_operator, first_is, operator_fits, goes_further}
 use Rattle.kpn_text_tokens.specs.declared.tokens.Language.TheVariants as language
-use Rattle.kpn_text_tokens.specs.declared.tokens.Lexeme.{Lexeme}
-use Rattle.kpn_text_tokens.specs.declared.tokens.Token.{Token}
 use Rattle.kpn_text_tokens.specs.declared.tokens.Token.TheVariants as token
 use Rattle.kpn_text_tokens.specs.declared.tokens.Mark.TheVariants as mark_
-use Rattle.kpn_text_grammar.specs.declared.parser.Scope.{Scope}
-use Rattle.kpn_lang.specs.declared.syntax.Op.{Op}
 use Rattle.kpn_lang.specs.declared.syntax.Op.TheVariants as op
 use Rattle.kpn_text_grammar.specs.Operators.{operator_mark, operator_of, tightness, left_side, right_side, LOOSEST, OPERAND, loosest}
-use Rattle.kpn_text_grammar.specs.Spelling.{kinds}
-use Rattle.kpn_text_grammar.specs.TokenTests.{is_mark}
-use Rattle.kpn_text_grammar.specs.Reading.{operator, token_operator, first_is, operator_fits, goes_further}
 use Rattle.kpn_text_grammar.proofs.Steps.{first_kind, operator_back}
 use Rattle.kpn_text_grammar.proofs.Readers.{begins, an_operator}
 

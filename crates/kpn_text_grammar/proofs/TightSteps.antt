@@ -1,15 +1,7 @@
 -- A turn of the loop that reads operators and their right sides: to go on behind what was read so far is to read the
 -- whole.
-use Rattle.std.proofs.Common.{◌≡◌, ℕ, zero, suc, ◌-◌, ◌<◌, ◌≤◌, min, true, false, List, length, Ok, Err, refl, sym, ap, ◌∙◌, arith}
-use Rattle.std.proofs.lemmas.Bool.{le-leb, lt-leb}
-use Rattle.kpn_text_tokens.specs.declared.tokens.Lexeme.{Lexeme}
-use Rattle.kpn_text_grammar.specs.declared.fault.GrammarFault.{GrammarFault}
+use Rattle.kpn_text_grammar.proofs.Common.{◌≡◌, ℕ, zero, suc, ◌-◌, ◌<◌, ◌≤◌, min, true, false, List, length, Ok, Err, refl, sym, ap, ◌∙◌, arith, le-leb, lt-leb, Lexeme, GrammarFault, Scope, Op, ExpressionNode, binary, tightness, right_side, OPERAND, term_level}
 use Rattle.kpn_text_grammar.specs.declared.fault.GrammarFault.TheVariants as fault
-use Rattle.kpn_text_grammar.specs.declared.parser.Scope.{Scope}
-use Rattle.kpn_lang.specs.declared.syntax.Op.{Op}
-use Rattle.kpn_text_grammar.specs.Syntax.{ExpressionNode, binary}
-use Rattle.kpn_text_grammar.specs.Operators.{tightness, right_side, OPERAND}
-use Rattle.kpn_text_grammar.specs.Spelling.{term_level}
 use Rattle.kpn_text_tokens.specs.Results.{and_then}
 use Rattle.kpn_text_grammar.specs.Reading.{Read, ReadingFails, next, operator, level_fault, first_is, goes_further, sides_behind, tight_operand, tight_over, tight}
 use Rattle.kpn_text_grammar.proofs.Readers.{kinds_length}

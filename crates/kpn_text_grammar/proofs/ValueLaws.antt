@@ -1,11 +1,7 @@
 -- Values with commas between them.
-use Rattle.std.proofs.Common.{List, refl, sym}
-use Rattle.kpn_text_tokens.specs.declared.tokens.Token.{Token}
+use Rattle.kpn_text_grammar.proofs.Common.{List, refl, sym, Token, Scope, Literal, plain, negated, spell_list, spell_literal}
 use Rattle.kpn_text_tokens.specs.declared.tokens.Token.TheVariants as token
 use Rattle.kpn_text_tokens.specs.declared.tokens.Mark.TheVariants as mark_
-use Rattle.kpn_text_grammar.specs.declared.parser.Scope.{Scope}
-use Rattle.kpn_text_grammar.specs.Syntax.{Literal, plain, negated}
-use Rattle.kpn_text_grammar.specs.Spelling.{spell_list, spell_literal}
 use Rattle.kpn_text_grammar.specs.Reading.{literal_behind, literal, separated}
 use Rattle.kpn_text_grammar.proofs.Lookahead.{Anything}
 use Rattle.kpn_text_grammar.proofs.Readers.{Reads, Free, Unless, done, value, a_number, Arms, arm, no_arm, Begun, by_token, Exactly, exactly, Some_of, some_of, is_comma, with_commas}

@@ -1,13 +1,6 @@
 -- Expressions of statements in both languages: what is read is spelled so, and what is spelled so is read again.
-use Rattle.std.proofs.Common.{◌≡◌, subst, sym, ◌-◌, ◌<◌, ◌≤◌, List, ◌∷◌, arith}
-use Rattle.kpn_limits.specs.declared.TheConstants.{MAX_LEVELS}
-use Rattle.kpn_text_tokens.specs.declared.tokens.Language.{Language}
+use Rattle.kpn_text_grammar.proofs.Common.{◌≡◌, subst, sym, ◌-◌, ◌<◌, ◌≤◌, List, ◌∷◌, arith, MAX_LEVELS, Language, Token, Scope, LOOSEST, OPERAND, loosest, ExpressionNode, spell_expression, term_level, SpellsTerm}
 use Rattle.kpn_text_tokens.specs.declared.tokens.Language.TheVariants as language
-use Rattle.kpn_text_tokens.specs.declared.tokens.Token.{Token}
-use Rattle.kpn_text_grammar.specs.declared.parser.Scope.{Scope}
-use Rattle.kpn_text_grammar.specs.Operators.{LOOSEST, OPERAND, loosest}
-use Rattle.kpn_text_grammar.specs.Syntax.{ExpressionNode}
-use Rattle.kpn_text_grammar.specs.Spelling.{spell_expression, term_level, SpellsTerm}
 use Rattle.kpn_text_grammar.specs.Reading.{whole}
 use Rattle.kpn_text_grammar.proofs.Lookahead.{lower}
 use Rattle.kpn_text_grammar.proofs.Readers.{ReaderBy, HasRoom, given}

@@ -1,10 +1,6 @@
 -- A text has no more lines than bytes, so it spells no more items than it has bytes.
 use Rattle.std.proofs.Common.{ℕ, suc, ◌≤◌, Bool, true, false, cond, eqb, List, [], ◌∷◌, length, arith, ℤ}
-use Rattle.std.specs.List.{slice_split, onto_first}
-use Rattle.std.specs.Str.Lines.{lines, lines_of_parts}
-use Rattle.std.proofs.lemmas.Slice.Zip.{AllZip-long}
-use Rattle.kpn_text_items.specs.ItemLine.{SpellsItem}
-use Rattle.kpn_text_items.specs.ItemFile.{Spells}
+use Rattle.kpn_text_items.proofs.Common.{slice_split, onto_first, lines, lines_of_parts, AllZip-long, SpellsItem, Spells}
 
 -- one byte more makes at most one line more
 lines-fed : (parts : List (List ℕ)) → length (lines_of_parts ([] ∷ parts)) ≤ suc (length (lines_of_parts parts))

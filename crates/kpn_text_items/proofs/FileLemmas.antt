@@ -1,11 +1,6 @@
 -- Reading a file line by line: what the lines so far spell, and which line is bad.
-use Rattle.std.proofs.Common.{◌≡◌, ℕ, ◌+◌, List, [], ◌∷◌, ◌++◌, length, sym, ap, ◌∙◌, arith, append_assoc}
+use Rattle.kpn_text_items.proofs.Common.{◌≡◌, ℕ, ◌+◌, List, [], ◌∷◌, ◌++◌, length, sym, ap, ◌∙◌, arith, append_assoc, AllZip, lines, AllZip-long, SpellsItem, IsFirstBad}
 use lib.IntN.{ℤ}
-use Rattle.std.specs.List.{AllZip}
-use Rattle.std.specs.Str.Lines.{lines}
-use Rattle.std.proofs.lemmas.Slice.Zip.{AllZip-long}
-use Rattle.kpn_text_items.specs.ItemLine.{SpellsItem}
-use Rattle.kpn_text_items.specs.ItemFile.{IsFirstBad}
 
 -- the lines of the bytes are some that spell the items so far, and then those of the rest
 pub record HasTaken (bytes rest : List ℕ) (items : List ℤ) : Type 0 where

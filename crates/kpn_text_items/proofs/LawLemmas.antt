@@ -1,19 +1,10 @@
 -- The laws of item files.
-use Rattle.std.proofs.Common.{◌≡◌, ℕ, suc, ◌-◌, ◌^◌, ◌<◌, ◌≤◌, false, eqb, List, [], ◌∷◌, ◌++◌, length, get_or, refl, sym, ap, ◌∙◌, subst, arith, append_assoc}
+use Rattle.kpn_text_items.proofs.Common.{◌≡◌, ℕ, suc, ◌-◌, ◌^◌, ◌<◌, ◌≤◌, false, eqb, List, [], ◌∷◌, ◌++◌, length, get_or, refl, sym, ap, ◌∙◌, subst, arith, append_assoc, All, AllZip, lines, strip_carriage_return, AllDigits, IsNumeral, digits_value, starts_with_minus, ne_eqb, cond-false, nat_tests, ints, MAX_DIGITS, SpellsItem, without_minus, item_text}
 use Rattle.std.specs.Prelude.{ℤ, pos, negsuc, neg_ℤ, FitsSigned}
 use Rattle.std.specs.Int.{w64}
-use Rattle.std.specs.List.{All, AllZip}
 use Rattle.std.specs.Fmt.{decimal, signed_decimal}
-use Rattle.std.specs.Str.Lines.{lines, strip_carriage_return}
-use Rattle.std.specs.Str.Parse.{AllDigits, IsNumeral, digits_value, starts_with_minus}
-use Rattle.std.proofs.lemmas.Bool.{ne_eqb, cond-false}
-use Rattle.std.proofs.lemmas.Bool.Decides.{nat_tests}
 use Rattle.std.proofs.lemmas.Fmt.{decimal_is_IsNumeral, length-decimal-le}
-use Rattle.std.proofs.lemmas.Int.{ints}
 use Rattle.std.proofs.lemmas.List.Elements.{All-nil, All-cons}
-use Rattle.kpn_limits.specs.declared.TheConstants.{MAX_DIGITS}
-use Rattle.kpn_text_items.specs.ItemLine.{SpellsItem, without_minus}
-use Rattle.kpn_text_items.specs.ItemFile.{item_text}
 use Rattle.kpn_text_items.specs.Laws.{ReadsBack, IsUnambiguous, ExcludesSpelling}
 use Rattle.kpn_text_items.proofs.LineLemmas.{lines-feed}
 

@@ -1,13 +1,8 @@
 -- A text's first line taken off: what comes before the first line feed, or all if there is none.
-use Rattle.std.proofs.Common.{◌≡◌, ℕ, ◌+◌, ◌<◌, ◌≤◌, Bool, false, cond, eqb, List, [], ◌∷◌, ◌++◌, length, get_or, take, drop, length-take, Some, None, refl, ap, ◌∙◌, arith}
-use Rattle.std.specs.List.{All, slice_split, position, position_or_len}
-use Rattle.std.specs.Str.Lines.{lines, lines_of_parts, strip_carriage_return}
+use Rattle.kpn_text_items.proofs.Common.{◌≡◌, ℕ, ◌+◌, ◌<◌, ◌≤◌, Bool, false, cond, eqb, List, [], ◌∷◌, ◌++◌, length, get_or, take, drop, length-take, Some, None, refl, ap, ◌∙◌, arith, All, slice_split, position, position_or_len, lines, lines_of_parts, strip_carriage_return, ne_eqb, eqb-true, nat_tests, common_steps}
 use Rattle.std.proofs.lemmas.List.Splits.{slice_split_at, slice_split_none, length-slice_split}
 use Rattle.std.proofs.lemmas.List.Quantifiers.{position-Some}
 use Rattle.std.proofs.lemmas.List.Sums.{fails_before_first}
-use Rattle.std.proofs.lemmas.Bool.{ne_eqb, eqb-true}
-use Rattle.std.proofs.lemmas.Bool.Decides.{nat_tests}
-use Rattle.std.proofs.lemmas.Grind.{common_steps}
 
 -- a line feed
 abbrev is_feed : ℕ → Bool

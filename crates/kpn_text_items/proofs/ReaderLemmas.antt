@@ -1,6 +1,5 @@
 -- What one read after another takes from a reader.
-use Rattle.std.proofs.Common.{ℕ, List, ◌++◌, Option, Some, None, sym, ◌∙◌}
-use Rattle.std.specs.Io.KnownBytes.{Consumes, Keeps}
+use Rattle.kpn_text_items.proofs.Common.{ℕ, List, ◌++◌, Option, Some, None, sym, ◌∙◌, Consumes, Keeps}
 use Rattle.std.proofs.KnownBytes.{Consumes-trans}
 use Rattle.kpn_text_items.specs.Input.{LosesItsFront}
 

@@ -1,7 +1,5 @@
 -- An expression over no names has none.
-use Rattle.std.proofs.Common.{◌≡◌, Bool, true, false, ◌&&◌, Ok, refl, subst}
-use Rattle.kpn_lang.specs.Syntax.{Term, Neg, Not, BitNot, Bin, Choice, names_below}
-use Rattle.kpn_text_grammar.specs.Syntax.{ExpressionNode, numeral, variable, element, minus, negation, complement, binary, conditional}
+use Rattle.kpn_text_names.proofs.Common.{◌≡◌, Bool, true, false, ◌&&◌, Ok, refl, subst, Term, Neg, Not, BitNot, Bin, Choice, names_below, ExpressionNode, numeral, variable, element, minus, negation, complement, binary, conditional}
 use Rattle.kpn_text_tokens.specs.Results.{and_then}
 use Rattle.kpn_text_names.specs.Body.{term_in}
 use Rattle.kpn_text_names.specs.Constant.{nothing_known}

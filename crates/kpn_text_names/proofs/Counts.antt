@@ -1,19 +1,6 @@
 -- There are as many names as processes, instances and channels.
-use Rattle.std.proofs.Common.{◌≡◌, suc, List, [], ◌∷◌, ◌++◌, length, map, Ok, refl, sym, ap, subst, ◌∙◌, length-append, arith}
-use Rattle.std.proofs.lemmas.List.{length-map}
-use Rattle.kpn_net.specs.declared.tables.ChannelSpec.{ChannelSpec}
-use Rattle.kpn_net.specs.declared.tables.ChannelSpec.TheVariants.{Inner, Source, Sink}
-use Rattle.kpn_text_tokens.specs.declared.tokens.Language.{Language}
+use Rattle.kpn_text_names.proofs.Common.{◌≡◌, suc, List, [], ◌∷◌, ◌++◌, length, map, Ok, refl, sym, ap, subst, ◌∙◌, length-append, arith, length-map, ChannelSpec, Inner, Source, Sink, Language, NameBytes, ProcessNode, Item, channel, source, sink, instance, Description, each, and_then, SharedTables, shared_of, declared, settings_of, Wiring, within_32_bits, with_wired_channel, with_instance, with_wired_item, instance_of, all_channels, wiring, NamedProgram, Programs, named_program, with_named_process, programs_of, Named, named_with, EachIsNamed, resolve, AreNamed, names_in, paired, process_names_in}
 use Rattle.kpn_text_grammar.specs.Syntax as grammar
-use Rattle.kpn_text_grammar.specs.Syntax.{NameBytes, ProcessNode, Item, channel, source, sink, instance, Description}
-use Rattle.kpn_text_names.specs.Fault.{each}
-use Rattle.kpn_text_tokens.specs.Results.{and_then}
-use Rattle.kpn_text_names.specs.declared.tables.SharedTables.{SharedTables}
-use Rattle.kpn_text_names.specs.Shared.{shared_of}
-use Rattle.kpn_text_names.specs.Names.{declared}
-use Rattle.kpn_text_names.specs.Network.{settings_of, Wiring, within_32_bits, with_wired_channel, with_instance, with_wired_item, instance_of, all_channels, wiring}
-use Rattle.kpn_text_names.specs.Named.{NamedProgram, Programs, named_program, with_named_process, programs_of, Named, named_with, EachIsNamed, resolve}
-use Rattle.kpn_text_names.specs.NetworkNames.{AreNamed, names_in, paired, process_names_in}
 use Rattle.kpn_text_names.proofs.Chains.{ok_is, went}
 use Rattle.kpn_text_names.proofs.KnownNames.{declared_is}
 use Rattle.kpn_text_names.proofs.Steps.{keeps}

@@ -1,28 +1,12 @@
 -- What language 1 resolves, language 2 resolves the same: before a body it knows the names that language 1 knows behind
 -- it, and with them each statement is the same.
-use Rattle.std.proofs.Common.{◌≡◌, ℕ, suc, ◌+◌, ◌<◌, pos, Bool, true, false, cond, not, ◌||◌, List, [], ◌∷◌, ◌++◌, length, eqb, nat_lt, Option, Some, None, Result, Ok, Err, refl, sym, ap, subst, ◌∙◌, arith, length-append}
-use Rattle.std.specs.List.{position_or_len}
-use Rattle.std.specs.Str.{bytes_eq}
-use Rattle.std.specs.Cmp.Lexicographic.{bytes_decides}
-use Rattle.std.proofs.lemmas.Bool.{cond_both, cond-false, cond-true, eqb-true, lt-ltb, ltb-true}
-use Rattle.std.proofs.lemmas.List.Folds.{list_any_at, position_or_len_push}
+use Rattle.kpn_text_names.proofs.Common.{◌≡◌, ℕ, suc, ◌+◌, ◌<◌, pos, Bool, true, false, cond, not, ◌||◌, List, [], ◌∷◌, ◌++◌, length, eqb, nat_lt, Option, Some, None, Result, Ok, Err, refl, sym, ap, subst, ◌∙◌, arith, length-append, position_or_len, bytes_eq, bytes_decides, cond_both, cond-false, cond-true, eqb-true, lt-ltb, ltb-true, list_any_at, position_or_len_push, Tree, Assign, Read, Write, If, While, Set, and_then, NameScope, SharedTables, has, number_of, or_unknown, known, declared, with_name, is_port, is_row, target, with_target, array_row, row_of, head_scope, declare, with_targets_of, with_targets, shared_of, WrittenBody, body_blocks, body_of, wiring, settings_of, NamedProgram, Programs, program_with, with_uses, named_program, with_named_process, programs_of, Named, named_with, resolve}
 use Rattle.kpn_lang.specs.Syntax as lang
-use Rattle.kpn_lang.specs.Tree.{Tree, Assign, Read, Write, If, While, Set}
 use Rattle.kpn_text_tokens.specs.declared.tokens.Language.TheVariants as language
-use Rattle.kpn_text_tokens.specs.Results.{and_then}
 use Rattle.kpn_text_grammar.specs.Syntax.{NameBytes, ExpressionNode, numeral, variable, element, minus, negation, complement, binary, conditional, StatementNode, assign, store, receive, send, choice, loop, Statements, no_statements, statement, ProcessNode, Description}
-use Rattle.kpn_text_names.specs.declared.scope.NameScope.{NameScope}
 use Rattle.kpn_text_names.specs.declared.rows.Row.{Row}
-use Rattle.kpn_text_names.specs.declared.tables.SharedTables.{SharedTables}
 use Rattle.kpn_text_names.specs.Fault.{NameError, each}
-use Rattle.kpn_text_names.specs.Names.{has, number_of, or_unknown, known, declared, with_name}
-use Rattle.kpn_text_names.specs.Scope.{is_port, is_row, target, with_target, array_row, row_of, head_scope, declare}
-use Rattle.kpn_text_names.specs.Targets.{with_targets_of, with_targets}
-use Rattle.kpn_text_names.specs.Shared.{shared_of}
 use Rattle.kpn_text_names.specs.Body.{term_in, statement_in, tree_in}
-use Rattle.kpn_text_names.specs.Blocks.{WrittenBody, body_blocks, body_of}
-use Rattle.kpn_text_names.specs.Network.{wiring, settings_of}
-use Rattle.kpn_text_names.specs.Named.{NamedProgram, Programs, program_with, with_uses, named_program, with_named_process, programs_of, Named, named_with, resolve}
 use Rattle.kpn_text_names.specs.Laws.{SecondResolvesFirst}
 use Rattle.kpn_text_names.proofs.Chains.{ok_is, went, then_ok}
 use Rattle.kpn_text_names.proofs.KnownNames.{IsNamed, is_named-append, target_named, if_not, or_known}

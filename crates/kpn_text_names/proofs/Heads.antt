@@ -1,19 +1,11 @@
 -- The head of a process, name by name, is its names if they are distinct.
-use Rattle.std.proofs.Common.{◌≡◌, Bool, true, false, cond, not, ◌&&◌, ◌||◌, List, [], ◌∷◌, ◌++◌, Result, Ok, Err, refl, sym, ap, ◌∙◌, append_assoc, append-nil}
-use Rattle.std.proofs.lemmas.List.Folds.{list_any-append}
-use Rattle.std.specs.Str.{bytes_eq}
-use Rattle.kpn_text_grammar.specs.Syntax.{NameBytes, ProcessNode}
-use Rattle.kpn_text_names.specs.declared.scope.NameScope.{NameScope}
+use Rattle.kpn_text_names.proofs.Common.{◌≡◌, Bool, true, false, cond, not, ◌&&◌, ◌||◌, List, [], ◌∷◌, ◌++◌, Result, Ok, Err, refl, sym, ap, ◌∙◌, append_assoc, append-nil, list_any-append, bytes_eq, NameBytes, ProcessNode, NameScope, NameFault, has, are_new, scope_with, head_scope, is_taken, with_head_name, declared_in}
 use Rattle.kpn_text_names.specs.declared.scope.HeadPart.{HeadPart}
 use Rattle.kpn_text_names.specs.declared.scope.HeadPart.TheVariants.{In, Out, Parameter}
-use Rattle.kpn_text_names.specs.declared.fault.NameFault.{NameFault}
 use Rattle.kpn_text_names.specs.Fault.{NameError, double, each, ResolvingFails}
 use Rattle.kpn_text_tokens.specs.Results.{and_then}
 use Rattle.kpn_text_names.proofs.Chains.{then_ok}
 use Rattle.kpn_text_names.proofs.Steps.{fails_first}
-use Rattle.kpn_text_names.specs.Names.{has}
-use Rattle.kpn_text_names.specs.Scope.{are_new, scope_with, head_scope, is_taken}
-use Rattle.kpn_text_names.specs.Writer.{with_head_name, declared_in}
 
 -- the three parts in turn
 abbrev head_by_parts : (shared ins outs pars : List NameBytes) → Result NameScope NameError

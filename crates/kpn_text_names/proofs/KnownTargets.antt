@@ -1,11 +1,7 @@
 -- What each target keeps holds with all targets of a body.
-use Rattle.std.proofs.Common.{List}
-use Rattle.kpn_text_tokens.specs.declared.tokens.Language.{Language}
+use Rattle.kpn_text_names.proofs.Common.{List, Language, NameScope, with_target, with_targets_of, with_targets, known_before}
 use Rattle.kpn_text_tokens.specs.declared.tokens.Language.TheVariants as language
 use Rattle.kpn_text_grammar.specs.Syntax.{NameBytes, StatementNode, assign, store, receive, send, choice, loop, Statements, no_statements, statement}
-use Rattle.kpn_text_names.specs.declared.scope.NameScope.{NameScope}
-use Rattle.kpn_text_names.specs.Scope.{with_target}
-use Rattle.kpn_text_names.specs.Targets.{with_targets_of, with_targets, known_before}
 
 module _ (P : NameScope → Type 0) (shared : List NameBytes) (one : (s : NameScope) (x : NameBytes) → P s → P (with_target shared s x)) where
   mutual

@@ -1,33 +1,11 @@
 -- No name is twice in a table of names: each step adds a name that is new, or none.
-use Rattle.std.proofs.Common.{◌≡◌, ℕ, zero, suc, ◌<◌, Bool, true, false, cond, not, ◌||◌, List, [], ◌∷◌, ◌++◌, length, map, Option, Some, None, Ok, Err, refl, sym, ap, subst, ◌∙◌, append_assoc, append-nil, length-append, inl, inr, arith}
-use Rattle.std.specs.List.{All, position_or_len}
-use Rattle.std.specs.Str.{bytes_eq}
-use Rattle.std.specs.Cmp.Lexicographic.{bytes_decides}
-use Rattle.std.proofs.Math.Seq.{get_or-append_seam}
-use Rattle.std.proofs.lemmas.Bool.{cases_eq, false≢true, and_from, and_parts, or_parts, lt-ltb}
-use Rattle.std.proofs.lemmas.List.{get_or_append_left, length-map}
+use Rattle.kpn_text_names.proofs.Common.{◌≡◌, ℕ, zero, suc, ◌<◌, Bool, true, false, cond, not, ◌||◌, List, [], ◌∷◌, ◌++◌, length, map, Option, Some, None, Ok, Err, refl, sym, ap, subst, ◌∙◌, append_assoc, append-nil, length-append, inl, inr, arith, All, position_or_len, bytes_eq, bytes_decides, get_or-append_seam, cases_eq, false≢true, and_from, and_parts, or_parts, lt-ltb, get_or_append_left, length-map, list_any_at, list_any-append, Tree, ChannelSpec, Inner, Source, Sink, Language, NameScope, and_then, name_at, has, declared, number_of, with_name, SharedTables, double, each, are_new, scope_with, head_scope, is_port, is_row, is_taken, declared_name, with_declaration, declare, table_values, behind_arrays, target, with_target, no_shared, with_shared, shared_of, with_use, with_use_if, with_name_used, used_in_term, used_in_statement, used_in, WrittenBody, body_blocks, body_of, Settings, settings_of, Wiring, within_32_bits, with_wired_channel, with_instance, with_wired_item, instance_of, all_channels, wiring, NamedProgram, program_with, with_uses, at_body, named_program, Programs, with_named_process, programs_of, Named, named_with, resolve, named_row, named_table, paired, process_names_in, names_in}
 use Rattle.std.proofs.lemmas.List.Elements.{All-push}
-use Rattle.std.proofs.lemmas.List.Folds.{list_any_at, list_any-append}
 use Rattle.std.proofs.lemmas.List.Sums.{position_or_len_is}
-use Rattle.kpn_lang.specs.Tree.{Tree}
-use Rattle.kpn_net.specs.declared.tables.ChannelSpec.{ChannelSpec}
-use Rattle.kpn_net.specs.declared.tables.ChannelSpec.TheVariants.{Inner, Source, Sink}
-use Rattle.kpn_text_tokens.specs.declared.tokens.Language.{Language}
 use Rattle.kpn_text_grammar.specs.Syntax as grammar
 use Rattle.kpn_text_grammar.specs.Syntax.{NameBytes, ExpressionNode, numeral, variable, element, minus, negation, complement, binary, conditional, Table, StatementNode, assign, store, receive, send, choice, loop, Statements, no_statements, statement, Declaration, ProcessNode, Item, channel, source, sink, instance, Description}
-use Rattle.kpn_text_names.specs.declared.scope.NameScope.{NameScope}
-use Rattle.kpn_text_tokens.specs.Results.{and_then}
-use Rattle.kpn_text_names.specs.Names.{name_at, has, declared, number_of, with_name}
-use Rattle.kpn_text_names.specs.declared.tables.SharedTables.{SharedTables}
 use Rattle.kpn_text_names.specs.declared.tables.KnownTables.{KnownTables}
-use Rattle.kpn_text_names.specs.Fault.{double, each}
-use Rattle.kpn_text_names.specs.Scope.{are_new, scope_with, head_scope, is_port, is_row, is_taken, declared_name, with_declaration, declare, table_values, behind_arrays, target, with_target}
-use Rattle.kpn_text_names.specs.Shared.{no_shared, with_shared, shared_of, with_use, with_use_if, with_name_used, used_in_term, used_in_statement, used_in}
 use Rattle.kpn_text_names.specs.Body.{statement_in, tree_in}
-use Rattle.kpn_text_names.specs.Blocks.{WrittenBody, body_blocks, body_of}
-use Rattle.kpn_text_names.specs.Network.{Settings, settings_of, Wiring, within_32_bits, with_wired_channel, with_instance, with_wired_item, instance_of, all_channels, wiring}
-use Rattle.kpn_text_names.specs.Named.{NamedProgram, program_with, with_uses, at_body, named_program, Programs, with_named_process, programs_of, Named, named_with, resolve}
-use Rattle.kpn_text_names.specs.NetworkNames.{named_row, named_table, paired, process_names_in, names_in}
 use Rattle.kpn_text_names.specs.Once.{StandOnce, InsideOnce, EachStandsOnce}
 use Rattle.kpn_text_names.proofs.Chains.{ok_is, went}
 use Rattle.kpn_text_names.proofs.Steps.{keeps}

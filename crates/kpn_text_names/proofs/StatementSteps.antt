@@ -1,21 +1,12 @@
 -- The statements of a block that remain, from a place on: what the next one makes of them.
-use Rattle.std.proofs.Common.{◌≡◌, ℕ, suc, ◌+◌, ◌<◌, ◌≤◌, List, [], ◌∷◌, ◌++◌, length, drop, get_or, set, Ok, refl, sym, ap, ◌∙◌, add-one}
-use Rattle.std.proofs.Math.Seq.{drop-cons}
-use Rattle.std.proofs.lemmas.List.{drop_all, map-append, map-set, length-map}
+use Rattle.kpn_text_names.proofs.Common.{◌≡◌, ℕ, suc, ◌+◌, ◌<◌, ◌≤◌, List, [], ◌∷◌, ◌++◌, length, drop, get_or, set, Ok, refl, sym, ap, ◌∙◌, add-one, drop-cons, drop_all, map-append, map-set, length-map, blocks_of, statement_seen, block_seen, NameBytes, Statements, NameScope, NameFault, ResolvingFails, WrittenBody}
 use Rattle.std.specs.Global.{Vec}
 use Rattle.kpn_lang.specs.Syntax as lang
 use Rattle.kpn_lang.specs.declared.syntax.Stmt.{Stmt}
-use Rattle.kpn_lang.specs.View.{blocks_of}
 use Rattle.kpn_lang.specs.View as code
 use Rattle.kpn_text_grammar.specs.declared.tree.StatementNode.{StatementNode}
-use Rattle.kpn_text_grammar.specs.View.{statement_seen, block_seen}
-use Rattle.kpn_text_grammar.specs.Syntax.{NameBytes, Statements}
-use Rattle.kpn_text_names.specs.declared.scope.NameScope.{NameScope}
-use Rattle.kpn_text_names.specs.declared.fault.NameFault.{NameFault}
-use Rattle.kpn_text_names.specs.Fault.{ResolvingFails}
 use Rattle.kpn_text_tokens.specs.Results.{and_then}
 use Rattle.kpn_text_names.specs.Writer.{statement_at, statements_at, numbered_block}
-use Rattle.kpn_text_names.specs.Blocks.{WrittenBody}
 use Rattle.kpn_text_names.proofs.Steps.{fails_first}
 
 module _ (shared : List NameBytes) (w : WrittenBody) (done : List lang.Statement) (xs : List StatementNode) (i : ℕ) where

@@ -1,8 +1,5 @@
 -- Steps over the items of a list, from a place on: what the next item makes of them.
-use Rattle.std.proofs.Common.{◌≡◌, ℕ, suc, ◌+◌, ◌<◌, ◌≤◌, List, [], ◌∷◌, length, map, drop, get_or, Result, Ok, refl, subst, add-one}
-use Rattle.std.proofs.Math.Seq.{drop-cons}
-use Rattle.std.proofs.lemmas.List.{drop_all}
-use Rattle.kpn_text_names.specs.declared.fault.NameFault.{NameFault}
+use Rattle.kpn_text_names.proofs.Common.{◌≡◌, ℕ, suc, ◌+◌, ◌<◌, ◌≤◌, List, [], ◌∷◌, length, map, drop, get_or, Result, Ok, refl, subst, add-one, drop-cons, drop_all, NameFault}
 use Rattle.kpn_text_names.specs.declared.fault.NameFault.TheVariants as fault
 use Rattle.kpn_text_names.specs.Fault.{NameError, each, ResolvingFails}
 use Rattle.kpn_text_tokens.specs.Results.{and_then}

@@ -1,9 +1,6 @@
 -- The blocks of a tree, put together again by their numbers, are the tree.
-use Rattle.std.proofs.Common.{◌≡◌, ℕ, zero, suc, ◌+◌, ◌≤◌, List, [], ◌∷◌, ◌++◌, length, refl, sym, ap, ◌∙◌, append_assoc, append-nil, length-append, arith}
-use Rattle.std.proofs.Math.Seq.{get_or-append_seam}
+use Rattle.kpn_text_names.proofs.Common.{◌≡◌, ℕ, zero, suc, ◌+◌, ◌≤◌, List, [], ◌∷◌, ◌++◌, length, refl, sym, ap, ◌∙◌, append_assoc, append-nil, length-append, arith, get_or-append_seam, Tree, End, Assign, Read, Write, If, While, Set, tree_over, tree_to, tree_of, block_at, blocks_in, own, inner, body_blocks}
 use Rattle.kpn_lang.specs.Syntax as lang
-use Rattle.kpn_lang.specs.Tree.{Tree, End, Assign, Read, Write, If, While, Set, tree_over, tree_to, tree_of, block_at}
-use Rattle.kpn_text_names.specs.Blocks.{blocks_in, own, inner, body_blocks}
 use Rattle.kpn_text_names.proofs.Writing.{length-inner}
 
 abbrev Blocks : Type 0

@@ -1,18 +1,11 @@
 -- What is written down block by block is the tree of the body, block by block: its own statements, then the blocks
 -- inside it.
-use Rattle.std.proofs.Common.{◌≡◌, ℕ, suc, ◌+◌, List, [], ◌∷◌, ◌++◌, length, set, Result, Ok, Err, refl, sym, ap, subst, ◌∙◌, append_assoc, append-nil, length-append, arith}
-use Rattle.std.proofs.Math.Seq.{set-append_seam}
+use Rattle.kpn_text_names.proofs.Common.{◌≡◌, ℕ, suc, ◌+◌, List, [], ◌∷◌, ◌++◌, length, set, Result, Ok, Err, refl, sym, ap, subst, ◌∙◌, append_assoc, append-nil, length-append, arith, set-append_seam, Tree, End, Assign, Read, Write, If, While, Set, NameScope, NameFault, NameError, ResolvingFails, row_at, blocks_in, own, inner, body_blocks, WrittenBody, body_of}
 use Rattle.kpn_lang.specs.Syntax as lang
-use Rattle.kpn_lang.specs.Tree.{Tree, End, Assign, Read, Write, If, While, Set}
 use Rattle.kpn_text_grammar.specs.Syntax.{NameBytes, StatementNode, assign, store, receive, send, choice, loop, Statements, no_statements, statement}
-use Rattle.kpn_text_names.specs.declared.scope.NameScope.{NameScope}
-use Rattle.kpn_text_names.specs.declared.fault.NameFault.{NameFault}
 use Rattle.kpn_text_names.specs.declared.fault.NameFault.TheVariants as fault
-use Rattle.kpn_text_names.specs.Fault.{NameError, ResolvingFails}
 use Rattle.kpn_text_tokens.specs.Results.{and_then}
-use Rattle.kpn_text_names.specs.Rows.{row_at}
 use Rattle.kpn_text_names.specs.Body.{statement_in, tree_in}
-use Rattle.kpn_text_names.specs.Blocks.{blocks_in, own, inner, body_blocks, WrittenBody, body_of}
 use Rattle.kpn_text_names.proofs.Chains.{ok_is, ok_then, bind_assoc, same_after}
 use Rattle.kpn_text_names.specs.Writer.{with_scope, with_open_block, closed, statement_at, statements_at, numbered_block}
 

@@ -1,12 +1,7 @@
 -- Reading a few decimal digits, one after the other.
-use Rattle.std.proofs.Common.{◌≡◌, ℕ, ◌+◌, ◌-◌, ◌*◌, ◌<◌, ◌≤◌, ◌^◌, List, length, get_or, take, ap, ◌∙◌, arith}
-use Rattle.std.specs.Int.{IsInRange}
-use Rattle.std.specs.Str.Parse.{AllDigits, digits_value}
+use Rattle.kpn_text_tokens.proofs.Common.{◌≡◌, ℕ, ◌+◌, ◌-◌, ◌*◌, ◌<◌, ◌≤◌, ◌^◌, List, length, get_or, take, ap, ◌∙◌, arith, IsInRange, AllDigits, digits_value, digit_value_digit, digit_at, digits_value-take-le, MAX_DIGITS}
 use Rattle.std.proofs.Math.Nat.{pow-le-pow_right}
 use Rattle.std.proofs.lemmas.Int.Digits.{digits_value_more, digits_value-lt}
-use Rattle.std.proofs.lemmas.Str.{digit_value_digit}
-use Rattle.std.proofs.lemmas.Str.Parse.{digit_at, digits_value-take-le}
-use Rattle.kpn_limits.specs.declared.TheConstants.{MAX_DIGITS}
 
 -- a value of at most 19 digits
 digits_value_small : (ds : List ℕ) → AllDigits 10 ds → length ds ≤ MAX_DIGITS → digits_value 10 ds < 10 ^ 19

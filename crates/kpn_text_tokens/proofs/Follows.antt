@@ -1,31 +1,13 @@
 -- A scan follows the rules: each piece that it takes is what some rule says.
-use Rattle.std.proofs.Common.{◌≡◌, ℕ, zero, suc, ◌+◌, ◌<◌, ◌≤◌, ⊎_elim, inl, inr, true, false, ◌&&◌, List, [], ◌∷◌, ◌++◌, length, drop, Option, Some, None, Result, Err, nat_le, nat_lt, refl, sym, ap, subst, arith, length-drop}
-use Rattle.std.specs.Char.{is_ascii_digit}
-use Rattle.std.specs.List.{starts_with}
-use Rattle.std.specs.Prelude.{◌==◌, nat_eq, slice_index}
+use Rattle.kpn_text_tokens.proofs.Common.{◌≡◌, ℕ, zero, suc, ◌+◌, ◌<◌, ◌≤◌, ⊎_elim, inl, inr, true, false, ◌&&◌, List, [], ◌∷◌, ◌++◌, length, drop, Option, Some, None, Result, Err, nat_le, nat_lt, refl, sym, ap, subst, arith, length-drop, is_ascii_digit, starts_with, ◌==◌, nat_eq, slice_index, digits_value, and_cases, and_parts, cond_both, eqb-true, leb-false, leb-true, ltb-false, ltb-true, or_left, or_right, Decides-eqb, MAX_DIGITS, MAX_NAME_BYTES, MAX_NUMBER, LexFault, Piece, Keyword, Language, Lexeme, Mark, Token, IsWord, IsSpelled, EndsBefore, Reads, done, white, comment, spelled, nothing, bad_number, long_name, quoted, bad_quoted, begins_quote, numeral_value, quoted_length, quoted_value, Class}
 use Rattle.std.specs.Str.{bytes_eq}
-use Rattle.std.specs.Str.Parse.{digits_value}
-use Rattle.std.proofs.lemmas.Bool.{and_cases, and_parts, cond_both, eqb-true, leb-false, leb-true, ltb-false, ltb-true, or_left, or_right}
-use Rattle.std.proofs.lemmas.Bool.Decides.{Decides-eqb}
 use Rattle.std.proofs.lemmas.Slice.Eq.{bytes_eq-Decides, starts_is}
-use Rattle.kpn_limits.specs.declared.TheConstants.{MAX_DIGITS, MAX_NAME_BYTES}
-use Rattle.kpn_text_tokens.specs.declared.tokens.TheConstants.{MAX_NUMBER}
 use Rattle.kpn_text_tokens.specs.declared.lexer.Class.TheVariants as class
-use Rattle.kpn_text_tokens.specs.declared.lexer.LexFault.{LexFault}
 use Rattle.kpn_text_tokens.specs.declared.lexer.LexFault.TheVariants as fault
-use Rattle.kpn_text_tokens.specs.declared.lexer.Piece.{Piece}
 use Rattle.kpn_text_tokens.specs.declared.lexer.Piece.TheVariants as piece
-use Rattle.kpn_text_tokens.specs.declared.tokens.Keyword.{Keyword}
-use Rattle.kpn_text_tokens.specs.declared.tokens.Language.{Language}
 use Rattle.kpn_text_tokens.specs.declared.tokens.Language.TheVariants as language
-use Rattle.kpn_text_tokens.specs.declared.tokens.Lexeme.{Lexeme}
-use Rattle.kpn_text_tokens.specs.declared.tokens.Mark.{Mark}
-use Rattle.kpn_text_tokens.specs.declared.tokens.Token.{Token}
 use Rattle.kpn_text_tokens.specs.declared.tokens.Token.TheVariants as token
 use Rattle.kpn_text_tokens.specs.Lexing.{is_white_space, begins_name, run, word_token, word_piece, number_piece, numbered, is_in, number_class, numeral_piece, marked, piece_of, cons_lexeme, scan}
-use Rattle.kpn_text_tokens.specs.Rules.{IsWord, IsSpelled, EndsBefore, Reads, done, white, comment, spelled, nothing, bad_number, long_name, quoted, bad_quoted}
-use Rattle.kpn_text_tokens.specs.Numerals.{begins_quote, numeral_value, quoted_length, quoted_value}
-use Rattle.kpn_text_tokens.specs.declared.lexer.Class.{Class}
 use Rattle.kpn_text_tokens.specs.Spelling.{has_keyword, keyword_bytes, keyword_of, keywords, mark_at, mark_bytes}
 use Rattle.kpn_text_tokens.proofs.Pieces.{find_passes, mark_stands, run-cons}
 use Rattle.kpn_text_tokens.proofs.Runs.{IsRunOf, run_is}

@@ -2,6 +2,7 @@
 -- `NumeralLaws`), white space (`Parting`), the
 -- tokens without their places (`WithoutPlaces`), the language of a text (`Openings`), and what a search finds
 -- (`Pieces`).
+pub mod Common
 mod Digits
 pub mod Follows
 pub mod NumeralLaws

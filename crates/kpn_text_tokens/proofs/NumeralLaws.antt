@@ -1,19 +1,8 @@
 -- Numbers of language 2: how great they are, how many bytes a quote takes, and what decimal digits are among them.
-use Rattle.std.proofs.Common.{◌≡◌, ℕ, zero, suc, ◌+◌, ◌*◌, ◌<◌, ◌≤◌, ◌^◌, Bool, true, false, cond, ◌&&◌, List, [], ◌∷◌, ◌++◌, length, drop, eqb, nat_le, nat_lt, Option, Some, None, refl, sym, ap, ◌∙◌, subst, arith}
-use Rattle.std.specs.Char.{digit_value, is_digit, is_ascii_digit}
-use Rattle.std.specs.Int.{IsInRange}
-use Rattle.std.specs.List.{starts_with, list_all}
+use Rattle.kpn_text_tokens.proofs.Common.{◌≡◌, ℕ, zero, suc, ◌+◌, ◌*◌, ◌<◌, ◌≤◌, ◌^◌, Bool, true, false, cond, ◌&&◌, List, [], ◌∷◌, ◌++◌, length, drop, eqb, nat_le, nat_lt, Option, Some, None, refl, sym, ap, ◌∙◌, subst, arith, digit_value, is_digit, is_ascii_digit, IsInRange, starts_with, list_all, AllDigits, digits_value, digits_value_after, and_from, and_parts, cond_both, cond-true, cond-false, eqb-true, false_from_ne_true, leb-true, le-leb, lt-ltb, true≢false, nat_tests, digit_from_value, MAX_NUMBER, Language, with_digit, digits_behind, digits_in, numeral_value, is_plain, escape_value, quoted_value, quoted_length, IsNumber}
 use Rattle.std.specs.Option.{option_and_then}
 use Rattle.std.specs.Prelude.{◌==◌, nat_eq, slice_index, codes}
-use Rattle.std.specs.Str.Parse.{AllDigits, digits_value, digits_value_after}
-use Rattle.std.proofs.lemmas.Bool.{and_from, and_parts, cond_both, cond-true, cond-false, eqb-true, false_from_ne_true, leb-true, le-leb, lt-ltb, true≢false}
-use Rattle.std.proofs.lemmas.Bool.Decides.{nat_tests}
-use Rattle.std.proofs.lemmas.Str.Parse.{digit_from_value}
-use Rattle.kpn_text_tokens.specs.declared.tokens.TheConstants.{MAX_NUMBER}
-use Rattle.kpn_text_tokens.specs.declared.tokens.Language.{Language}
 use Rattle.kpn_text_tokens.specs.declared.tokens.Language.TheVariants as language
-use Rattle.kpn_text_tokens.specs.Numerals.{with_digit, digits_behind, digits_in, numeral_value, is_plain, escape_value, quoted_value, quoted_length}
-use Rattle.kpn_text_tokens.specs.Rules.{IsNumber}
 
 -- ---- how great a number is
 

@@ -1,27 +1,12 @@
 -- White space parts a text: what comes before it is read by itself.
 use Rattle.std.proofs.Common.{◌≡◌, ℕ, ◌+◌, ◌≤◌, ⊎_elim, inl, inr, Bool, true, false, not, List, [], ◌∷◌, ◌++◌, length, take, drop, Result, Ok, Err, Option, Some, None, eqb, refl, sym, ap, ◌∙◌, subst, append_assoc, arith, length-append, length-drop}
-use Rattle.std.specs.Cmp.Lexicographic.{pointwise}
-use Rattle.std.specs.List.{list_all, starts_with}
+use Rattle.kpn_text_tokens.proofs.Common.{pointwise, list_all, starts_with, and_from, and_parts, eqb-true, false_from_ne_true, not-true, or_right, true≢false, drop-append-le, take-append-drop, nat_tests, Class, LexFault, Language, Lexeme, Mark, Token, is_white_space, is_in, number_class, cons_lexeme, scan, may_hide, Separates, WhiteSpaceSeparates, followed_by, Stops, EndsBefore, MarkEnds, NotDoubled, BeginsNothing, Reads, done, white, comment, spelled, nothing, bad_number, long_name, quoted, bad_quoted, begins_quote, quoted_length, quoted_value, mark_bytes}
 use Rattle.std.specs.Prelude.{◌==◌, nat_eq, codes}
-use Rattle.std.proofs.lemmas.Bool.{and_from, and_parts, eqb-true, false_from_ne_true, not-true, or_right, true≢false}
-use Rattle.std.proofs.lemmas.List.{drop-append-le, take-append-drop}
 use Rattle.std.proofs.lemmas.List.Folds.{list_all-append}
-use Rattle.std.proofs.lemmas.Bool.Decides.{nat_tests}
-use Rattle.kpn_text_tokens.specs.declared.lexer.Class.{Class}
 use Rattle.kpn_text_tokens.specs.declared.lexer.Class.TheVariants as class
-use Rattle.kpn_text_tokens.specs.declared.lexer.LexFault.{LexFault}
-use Rattle.kpn_text_tokens.specs.declared.tokens.Language.{Language}
 use Rattle.kpn_text_tokens.specs.declared.tokens.Language.TheVariants as language
-use Rattle.kpn_text_tokens.specs.declared.tokens.Lexeme.{Lexeme}
-use Rattle.kpn_text_tokens.specs.declared.tokens.Mark.{Mark}
 use Rattle.kpn_text_tokens.specs.declared.tokens.Mark.TheVariants as mark
-use Rattle.kpn_text_tokens.specs.declared.tokens.Token.{Token}
 use Rattle.kpn_text_tokens.specs.declared.tokens.Token.TheVariants as token
-use Rattle.kpn_text_tokens.specs.Lexing.{is_white_space, is_in, number_class, cons_lexeme, scan}
-use Rattle.kpn_text_tokens.specs.Laws.{may_hide, Separates, WhiteSpaceSeparates, followed_by}
-use Rattle.kpn_text_tokens.specs.Rules.{Stops, EndsBefore, MarkEnds, NotDoubled, BeginsNothing, Reads, done, white, comment, spelled, nothing, bad_number, long_name, quoted, bad_quoted}
-use Rattle.kpn_text_tokens.specs.Numerals.{begins_quote, quoted_length, quoted_value}
-use Rattle.kpn_text_tokens.specs.Spelling.{mark_bytes}
 use Rattle.kpn_text_tokens.proofs.NumeralLaws.{is_quoted, length_before, value_before}
 use Rattle.kpn_text_tokens.proofs.Follows.{scan_rules}
 use Rattle.kpn_text_tokens.proofs.Tables.{mark_is_solid}

@@ -1,28 +1,11 @@
 -- The piece at the front of a text takes a byte or more, and no more than the text has.
-use Rattle.std.proofs.Common.{◌≡◌, ℕ, suc, ◌<◌, ◌≤◌, Bool, true, false, cond, ◌&&◌, List, [], ◌∷◌, length, take, Option, Some, None, refl, sym, ap, ◌∙◌, subst, eqb, nat_lt, nat_le, arith, lit≤, length-take}
-use Rattle.std.specs.Char.{digit_value, is_ascii_digit}
-use Rattle.std.specs.Cmp.Lexicographic.{pointwise}
-use Rattle.std.specs.Int.{IsInRange}
-use Rattle.std.specs.List.{find, prefix_len, starts_with}
-use Rattle.std.specs.Prelude.{nat_eq, ◌==◌, slice_index}
-use Rattle.std.specs.Str.Parse.{AllDigits, digits_value}
-use Rattle.std.proofs.lemmas.Bool.{and_parts, cond_both, cond-true, leb-true, or_left, or_right}
-use Rattle.std.proofs.lemmas.Bool.Decides.{nat_tests}
-use Rattle.std.proofs.lemmas.List.Sums.{take_while-cons}
-use Rattle.std.proofs.lemmas.Str.{digit_value_digit}
-use Rattle.kpn_limits.specs.declared.TheConstants.{MAX_DIGITS, MAX_NAME_BYTES}
-use Rattle.kpn_text_tokens.specs.declared.tokens.TheConstants.{MAX_NUMBER}
-use Rattle.kpn_text_tokens.specs.declared.lexer.Class.{Class}
+use Rattle.kpn_text_tokens.proofs.Common.{◌≡◌, ℕ, suc, ◌<◌, ◌≤◌, Bool, true, false, cond, ◌&&◌, List, [], ◌∷◌, length, take, Option, Some, None, refl, sym, ap, ◌∙◌, subst, eqb, nat_lt, nat_le, arith, lit≤, length-take, digit_value, is_ascii_digit, pointwise, IsInRange, find, prefix_len, starts_with, nat_eq, ◌==◌, slice_index, AllDigits, digits_value, and_parts, cond_both, cond-true, leb-true, or_left, or_right, nat_tests, take_while-cons, digit_value_digit, MAX_DIGITS, MAX_NAME_BYTES, MAX_NUMBER, Class, Piece, Language, Mark, begins_quote, numeral_value, quoted_length, quoted_value}
 use Rattle.kpn_text_tokens.specs.declared.lexer.Class.TheVariants as class
-use Rattle.kpn_text_tokens.specs.declared.lexer.Piece.{Piece}
 use Rattle.kpn_text_tokens.specs.declared.lexer.Piece.TheVariants as piece
-use Rattle.kpn_text_tokens.specs.declared.tokens.Language.{Language}
 use Rattle.kpn_text_tokens.specs.declared.tokens.Language.TheVariants as language
-use Rattle.kpn_text_tokens.specs.declared.tokens.Mark.{Mark}
 use Rattle.kpn_text_tokens.specs.declared.tokens.Mark.TheVariants as mark
 use Rattle.kpn_text_tokens.specs.declared.tokens.Token.TheVariants as token
 use Rattle.kpn_text_tokens.specs.Lexing.{is_white_space, begins_name, is_in, TakesWithin, run, word_token, word_piece, number_piece, numbered, number_class, numeral_piece, marked, mark_piece, piece_of}
-use Rattle.kpn_text_tokens.specs.Numerals.{begins_quote, numeral_value, quoted_length, quoted_value}
 use Rattle.kpn_text_tokens.proofs.NumeralLaws.{is_quoted}
 use Rattle.kpn_text_tokens.specs.Spelling.{has_mark, keyword_of, mark_at, mark_bytes, marks}
 

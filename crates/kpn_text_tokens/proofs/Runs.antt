@@ -1,11 +1,5 @@
 -- A run is a front of the text whose bytes are all of its class, and after which the class stops; and the only one.
-use Rattle.std.proofs.Common.{◌≡◌, ℕ, List, [], ◌∷◌, ◌++◌, length, drop, refl, sym, ap, ◌∙◌, subst}
-use Rattle.std.specs.List.{list_all}
-use Rattle.std.proofs.lemmas.Bool.{and_from, and_parts, cond_both, cond-false}
-use Rattle.std.proofs.lemmas.List.Sums.{take_while-cons}
-use Rattle.kpn_text_tokens.specs.declared.lexer.Class.{Class}
-use Rattle.kpn_text_tokens.specs.Lexing.{is_in, run}
-use Rattle.kpn_text_tokens.specs.Rules.{AllIn, Stops}
+use Rattle.kpn_text_tokens.proofs.Common.{◌≡◌, ℕ, List, [], ◌∷◌, ◌++◌, length, drop, refl, sym, ap, ◌∙◌, subst, list_all, and_from, and_parts, cond_both, cond-false, take_while-cons, Class, is_in, run, AllIn, Stops}
 use Rattle.kpn_text_tokens.proofs.Pieces.{run-cons}
 
 run_stops : (c : Class) (rest : List ℕ) → Stops c rest → run c rest ≡ []

@@ -1,13 +1,7 @@
 -- How a scan goes on: past the first piece, and from what was found before.
-use Rattle.std.proofs.Common.{◌≡◌, ℕ, zero, suc, ◌+◌, ◌-◌, ◌<◌, ◌≤◌, List, [], ◌∷◌, ◌++◌, length, get_or, drop, Result, Ok, Err, sym, refl, ap, ◌∙◌, subst, append_assoc, arith}
-use Rattle.kpn_text_tokens.specs.declared.lexer.LexFault.{LexFault}
+use Rattle.kpn_text_tokens.proofs.Common.{◌≡◌, ℕ, zero, suc, ◌+◌, ◌-◌, ◌<◌, ◌≤◌, List, [], ◌∷◌, ◌++◌, length, get_or, drop, Result, Ok, Err, sym, refl, ap, ◌∙◌, subst, append_assoc, arith, LexFault, Piece, Language, Lexeme, Token, TakesWithin, after, cons_lexeme, piece_of, scan}
 use Rattle.kpn_text_tokens.specs.declared.lexer.LexFault.TheVariants as fault
-use Rattle.kpn_text_tokens.specs.declared.lexer.Piece.{Piece}
 use Rattle.kpn_text_tokens.specs.declared.lexer.Piece.TheVariants as piece
-use Rattle.kpn_text_tokens.specs.declared.tokens.Language.{Language}
-use Rattle.kpn_text_tokens.specs.declared.tokens.Lexeme.{Lexeme}
-use Rattle.kpn_text_tokens.specs.declared.tokens.Token.{Token}
-use Rattle.kpn_text_tokens.specs.Lexing.{TakesWithin, after, cons_lexeme, piece_of, scan}
 use Rattle.kpn_text_tokens.proofs.Pieces.{piece_fits}
 
 -- the lexemes found before, and those that follow

@@ -1,17 +1,10 @@
 -- What the tables of marks and of reserved words return, entry by entry.
-use Rattle.std.proofs.Common.{◌≡◌, ℕ, ◌≤◌, Bool, true, false, cond, ◌&&◌, List, [], ◌∷◌, ◌++◌, length, get_or, Option, Some, None, refl, ◌∙◌, lit≤}
-use Rattle.std.specs.List.{find, list_all, starts_with}
+use Rattle.kpn_text_tokens.proofs.Common.{◌≡◌, ℕ, ◌≤◌, Bool, true, false, cond, ◌&&◌, List, [], ◌∷◌, ◌++◌, length, get_or, Option, Some, None, refl, ◌∙◌, lit≤, find, list_all, starts_with, cond_both, cond-false, cond-true, MAX_NAME_BYTES, Keyword, Language, Mark, IsWord, MarkEnds, NotDoubled}
 use Rattle.std.specs.Prelude.{nat_eq, codes, not}
-use Rattle.std.proofs.lemmas.Bool.{cond_both, cond-false, cond-true}
-use Rattle.kpn_limits.specs.declared.TheConstants.{MAX_NAME_BYTES}
-use Rattle.kpn_text_tokens.specs.declared.tokens.Keyword.{Keyword}
 use Rattle.kpn_text_tokens.specs.declared.tokens.Keyword.TheVariants as keyword
-use Rattle.kpn_text_tokens.specs.declared.tokens.Language.{Language}
 use Rattle.kpn_text_tokens.specs.declared.tokens.Language.TheVariants as language
-use Rattle.kpn_text_tokens.specs.declared.tokens.Mark.{Mark}
 use Rattle.kpn_text_tokens.specs.declared.tokens.Mark.TheVariants as mark
 use Rattle.kpn_text_tokens.specs.Lexing.{is_white_space, mark_piece, piece_of}
-use Rattle.kpn_text_tokens.specs.Rules.{IsWord, MarkEnds, NotDoubled}
 use Rattle.kpn_text_tokens.specs.Spelling.{has_keyword, has_mark, is_two, keyword_bytes, keyword_of, mark_at, mark_bytes, marks}
 
 -- a reserved word is a word

@@ -1,29 +1,10 @@
 -- The laws of the tokens.
-use Rattle.std.proofs.Common.{◌≡◌, ◌⊎◌, ⊎_elim, ℕ, ◌+◌, ◌<◌, ◌≤◌, true, false, ◌&&◌, List, [], ◌∷◌, ◌++◌, length, get_or, Option, Some, None, Result, nat_le, nat_lt, refl, sym, ap, ◌∙◌, subst, arith, length-append}
-use Rattle.std.specs.Char.{is_ascii_digit}
-use Rattle.std.specs.List.{list_all}
-use Rattle.std.specs.Prelude.{◌==◌, slice_index}
-use Rattle.std.specs.Str.Parse.{digits_value}
-use Rattle.std.proofs.lemmas.Bool.{and_from, and_left, and_parts, and_right, cond-true, cond-false, eqb-true, le-leb, le-ltb, lt-leb, lt-ltb}
-use Rattle.std.proofs.lemmas.Bool.Decides.{nat_tests}
-use Rattle.std.proofs.lemmas.List.{drop_at}
-use Rattle.kpn_limits.specs.declared.TheConstants.{MAX_DIGITS, MAX_NAME_BYTES, MAX_TEXT_BYTES}
-use Rattle.kpn_text_tokens.specs.declared.tokens.TheConstants.{MAX_NUMBER}
+use Rattle.kpn_text_tokens.proofs.Common.{◌≡◌, ◌⊎◌, ⊎_elim, ℕ, ◌+◌, ◌<◌, ◌≤◌, true, false, ◌&&◌, List, [], ◌∷◌, ◌++◌, length, get_or, Option, Some, None, Result, nat_le, nat_lt, refl, sym, ap, ◌∙◌, subst, arith, length-append, is_ascii_digit, list_all, ◌==◌, slice_index, digits_value, and_from, and_left, and_parts, and_right, cond-true, cond-false, eqb-true, le-leb, le-ltb, lt-leb, lt-ltb, nat_tests, drop_at, MAX_DIGITS, MAX_NAME_BYTES, MAX_TEXT_BYTES, MAX_NUMBER, LexFault, Keyword, Language, Lexeme, Mark, Token, ShortTextIsScanned, AllIn, Stops, IsWord, IsName, IsSpelled, EndsBefore, MarkEnds, IsNumber, IsBadNumber, BeginsNothing, Reads, done, white, comment, spelled, nothing, bad_number, long_name, quoted, bad_quoted, begins_quote, quoted_length, quoted_value, is_two, has_keyword, has_mark, keyword_of, keyword_bytes, mark_bytes}
 use Rattle.kpn_text_tokens.specs.declared.lexer.Class.TheVariants as class
-use Rattle.kpn_text_tokens.specs.declared.lexer.LexFault.{LexFault}
 use Rattle.kpn_text_tokens.specs.declared.lexer.Piece.TheVariants as piece
-use Rattle.kpn_text_tokens.specs.declared.tokens.Keyword.{Keyword}
-use Rattle.kpn_text_tokens.specs.declared.tokens.Language.{Language}
 use Rattle.kpn_text_tokens.specs.declared.tokens.Language.TheVariants as language
-use Rattle.kpn_text_tokens.specs.declared.tokens.Lexeme.{Lexeme}
-use Rattle.kpn_text_tokens.specs.declared.tokens.Mark.{Mark}
-use Rattle.kpn_text_tokens.specs.declared.tokens.Token.{Token}
 use Rattle.kpn_text_tokens.specs.declared.tokens.Token.TheVariants as token
-use Rattle.kpn_text_tokens.specs.Laws.{ShortTextIsScanned}
 use Rattle.kpn_text_tokens.specs.Lexing.{is_white_space, begins_name, run, word_token, word_piece, numbered, number_class, numeral_piece, marked, piece_of, cons_lexeme, scan}
-use Rattle.kpn_text_tokens.specs.Rules.{AllIn, Stops, IsWord, IsName, IsSpelled, EndsBefore, MarkEnds, IsNumber, IsBadNumber, BeginsNothing, Reads, done, white, comment, spelled, nothing, bad_number, long_name, quoted, bad_quoted}
-use Rattle.kpn_text_tokens.specs.Numerals.{begins_quote, quoted_length, quoted_value}
-use Rattle.kpn_text_tokens.specs.Spelling.{is_two, has_keyword, has_mark, keyword_of, keyword_bytes, mark_bytes}
 use Rattle.kpn_text_tokens.proofs.Pieces.{mark_nonempty}
 use Rattle.kpn_text_tokens.proofs.Runs.{run_front}
 use Rattle.kpn_text_tokens.proofs.Scanning.{BeginsWith, scan_gap, scan_token, scan_none, scan_long}

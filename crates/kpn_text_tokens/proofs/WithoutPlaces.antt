@@ -1,27 +1,12 @@
 -- The tokens of a text without their places.
-use Rattle.std.proofs.Common.{◌≡◌, ℕ, zero, suc, ◌+◌, ◌-◌, ◌<◌, ◌≤◌, ◌||◌, ◌^◌, List, [], ◌∷◌, length, Option, Some, None, Result, Ok, Err, nat_le, refl, sym, ap, ◌∙◌, subst, arith}
-use Rattle.std.specs.Char.{is_ascii_digit}
+use Rattle.kpn_text_tokens.proofs.Common.{◌≡◌, ℕ, zero, suc, ◌+◌, ◌-◌, ◌<◌, ◌≤◌, ◌||◌, ◌^◌, List, [], ◌∷◌, length, Option, Some, None, Result, Ok, Err, nat_le, refl, sym, ap, ◌∙◌, subst, arith, is_ascii_digit, IsInRange, AllByRecursion, list_all, AllDigits, digits_value, and_from, and_parts, le-leb, or_right, map-append, digit_from_value, LexFault, Piece, Language, MAX_NUMBER, Lexeme, Token, begins_name, is_in, after, cons_lexeme, piece_of, scan, AllIn, IsNumeralOf, Reads, done, white, comment, spelled, nothing, bad_number, long_name, quoted, bad_quoted}
 use Rattle.std.specs.Fmt.{decimal}
-use Rattle.std.specs.Int.{IsInRange}
-use Rattle.std.specs.List.{AllByRecursion, list_all}
-use Rattle.std.specs.Str.Parse.{AllDigits, digits_value}
-use Rattle.std.proofs.lemmas.Bool.{and_from, and_parts, le-leb, or_right}
-use Rattle.std.proofs.lemmas.List.{map-append}
 use Rattle.std.proofs.lemmas.Fmt.{decimal_is_IsNumeral, length-decimal-le}
-use Rattle.std.proofs.lemmas.Str.Parse.{digit_from_value}
 use Rattle.kpn_text_tokens.specs.declared.lexer.Class.TheVariants as class
-use Rattle.kpn_text_tokens.specs.declared.lexer.LexFault.{LexFault}
-use Rattle.kpn_text_tokens.specs.declared.lexer.Piece.{Piece}
 use Rattle.kpn_text_tokens.specs.declared.lexer.Piece.TheVariants as piece
-use Rattle.kpn_text_tokens.specs.declared.tokens.Language.{Language}
 use Rattle.kpn_text_tokens.specs.declared.tokens.Language.TheVariants as language
-use Rattle.kpn_text_tokens.specs.declared.tokens.TheConstants.{MAX_NUMBER}
-use Rattle.kpn_text_tokens.specs.declared.tokens.Lexeme.{Lexeme}
-use Rattle.kpn_text_tokens.specs.declared.tokens.Token.{Token}
 use Rattle.kpn_text_tokens.specs.declared.tokens.Token.TheVariants as token
 use Rattle.kpn_text_tokens.specs.Laws.{DecimalIsSpelled, EmptyTextHasNoTokens, HasSpelling, ReadTokensAreSpelled, SpelledTokenIsRead, TokensKeepTheirKind, WhiteSpaceIsDropped, WhiteSpaceSeparatesTokens, append_tokens, cons_token, followed_by, tokens_in, tokens_of}
-use Rattle.kpn_text_tokens.specs.Lexing.{begins_name, is_in, after, cons_lexeme, piece_of, scan}
-use Rattle.kpn_text_tokens.specs.Rules.{AllIn, IsNumeralOf, Reads, done, white, comment, spelled, nothing, bad_number, long_name, quoted, bad_quoted}
 use Rattle.kpn_text_tokens.proofs.Follows.{scan_rules}
 use Rattle.kpn_text_tokens.proofs.NumeralLaws.{decimal_numeral, is_quoted}
 use Rattle.kpn_text_tokens.proofs.Parting.{white_space_separates}

@@ -1,28 +1,9 @@
 -- The walk back along a longest chain finds a get or put at each tick, down to the first.
-use Rattle.std.proofs.Common.{◌≡◌, ◌≢◌, ◌⊎◌, ℕ, zero, suc, ◌+◌, ◌-◌, ◌<◌, ◌≤◌, max, Bool, true, false, nat_lt, cond, eqb, eq-eqb, ◌&&◌, List, [], ◌∷◌, ◌++◌, length, set, get_or, take, Option, Some, None, refl, sym, ap, ◌∙◌, subst, inl, inr, arith}
-use Rattle.std.specs.List.{fold, sum, take_while, prefix_len}
-use Rattle.std.proofs.lemmas.Bool.{cases_lt, cases_Bool, lt-ltb, le-ltb, eqb-true}
-use Rattle.std.proofs.lemmas.Bool.Decides.{eqb_tells}
-use Rattle.std.proofs.lemmas.List.{append-nil, length-set, length-replicate}
+use Rattle.kpn_ticks.proofs.Common.{◌≡◌, ◌≢◌, ◌⊎◌, ℕ, zero, suc, ◌+◌, ◌-◌, ◌<◌, ◌≤◌, max, Bool, true, false, nat_lt, cond, eqb, eq-eqb, ◌&&◌, List, [], ◌∷◌, ◌++◌, length, set, get_or, take, Option, Some, None, refl, sym, ap, ◌∙◌, subst, inl, inr, arith, fold, sum, take_while, prefix_len, cases_lt, cases_Bool, lt-ltb, le-ltb, eqb-true, eqb_tells, append-nil, length-set, length-replicate, End, Process, Source, Sink, Tables, writer_of, reader_of, IsNetwork, Event, Get, Put, Feed, Take, HasNumbers, Legal, IsOwn, no_sink, Legal-nil, Legal-before, Legal-last, by_events, IsOwn-last, Move, Clocks, latest_of, written_of, read_of, item_there, room_there, latest_at, get_tick, put_tick, clocks_with_event, start, clocks_after, tick_in, ticks_of, wait_cause, move_at, move_of, with_move, Course, course_then, course_of, process_or, awaited_process, Walk, walk_past, walk_then, walk_back, last_process, walk_start, shares_of}
 use Rattle.std.proofs.lemmas.List.Sums.{sum_by-cons}
 use Rattle.std.proofs.lemmas.List.Folds.{sum_by-replicate}
-use Rattle.kpn_net.specs.declared.tables.End.{End}
-use Rattle.kpn_net.specs.declared.tables.End.TheVariants.{Process, Source, Sink}
-use Rattle.kpn_net.specs.Tables.{Tables, writer_of, reader_of}
-use Rattle.kpn_net.specs.Faults.{IsNetwork}
-use Rattle.kpn_history.specs.declared.event.Event.{Event}
-use Rattle.kpn_history.specs.declared.event.Event.TheVariants.{Get, Put, Feed, Take}
-use Rattle.kpn_history.specs.Legal.{HasNumbers, Legal}
-use Rattle.kpn_history.specs.OneMore.{IsOwn}
-use Rattle.kpn_history.proofs.Journals.{no_sink}
-use Rattle.kpn_history.proofs.Legality.{Legal-nil, Legal-before, Legal-last, by_events}
-use Rattle.kpn_history.proofs.Ownership.{IsOwn-last}
 use Rattle.kpn_ticks.specs.declared.moves.WaitCause.{WaitCause}
 use Rattle.kpn_ticks.specs.declared.moves.WaitCause.TheVariants.{Own, Item, Room}
-use Rattle.kpn_ticks.specs.declared.moves.Move.{Move}
-use Rattle.kpn_ticks.specs.Ticks.{Clocks, latest_of, written_of, read_of, item_there, room_there, latest_at, get_tick, put_tick, clocks_with_event, start, clocks_after}
-use Rattle.kpn_ticks.specs.Schedules.{tick_in, ticks_of}
-use Rattle.kpn_ticks.specs.Chain.{wait_cause, move_at, move_of, with_move, Course, course_then, course_of, process_or, awaited_process, Walk, walk_past, walk_then, walk_back, last_process, walk_start, shares_of}
 use Rattle.kpn_ticks.proofs.Counting.{clocks_are, room_from}
 use Rattle.kpn_ticks.proofs.Course.{course_clocks}
 use Rattle.kpn_ticks.proofs.Seen.{seen_push, clocks_push, HasPlaces, have_places, wrote, took, written_then, read_then, written_seen, read_seen, last_tick, latest_then, latest_seen}

@@ -1,18 +1,6 @@
 -- No tick is larger than the last one, and the last one is no larger than the number of events.
-use Rattle.std.proofs.Common.{◌≡◌, ℕ, zero, suc, ◌+◌, ◌-◌, ◌≤◌, max, Bool, true, false, nat_lt, cond, List, [], ◌∷◌, ◌++◌, length, set, get_or, replicate, map, Option, Some, None, sym, ap, ◌∙◌, subst, inl, inr, arith}
-use Rattle.std.specs.List.{fold, range_with_len}
-use Rattle.std.proofs.lemmas.Bool.{cases_lt}
-use Rattle.std.proofs.lemmas.Bool.Decides.{eqb_tells}
+use Rattle.kpn_ticks.proofs.Common.{◌≡◌, ℕ, zero, suc, ◌+◌, ◌-◌, ◌≤◌, max, Bool, true, false, nat_lt, cond, List, [], ◌∷◌, ◌++◌, length, set, get_or, replicate, map, Option, Some, None, sym, ap, ◌∙◌, subst, inl, inr, arith, fold, range_with_len, cases_lt, eqb_tells, get_or-set_same, get_or-set_other, length-set, length-replicate, get_or-replicate, get_or_append_left, get_or_push, get_or_past, length_push, length-map-range_with_len, map-range_with_len_more, Tables, channel_at, capacity, reader_of, End, Process, Source, Sink, Event, Get, Put, Feed, Take, Grow, Clocks, written_of, read_of, item_there, room_there, latest_at, get_tick, put_tick, with_tick, clocks_with_get, clocks_with_put, grown_from, clocks_with_event, start, clocks_after, AreClocks}
 use Rattle.std.proofs.Math.Seq.{set_out}
-use Rattle.std.proofs.lemmas.List.{get_or-set_same, get_or-set_other, length-set, length-replicate, get_or-replicate, get_or_append_left, get_or_push, get_or_past, length_push}
-use Rattle.std.proofs.lemmas.List.FromFn.{length-map-range_with_len, map-range_with_len_more}
-use Rattle.kpn_net.specs.Tables.{Tables, channel_at, capacity, reader_of}
-use Rattle.kpn_net.specs.declared.tables.End.{End}
-use Rattle.kpn_net.specs.declared.tables.End.TheVariants.{Process, Source, Sink}
-use Rattle.kpn_history.specs.declared.event.Event.{Event}
-use Rattle.kpn_history.specs.declared.event.Event.TheVariants.{Get, Put, Feed, Take, Grow}
-use Rattle.kpn_ticks.specs.Ticks.{Clocks, written_of, read_of, item_there, room_there, latest_at, get_tick, put_tick, with_tick, clocks_with_get, clocks_with_put, grown_from, clocks_with_event, start, clocks_after}
-use Rattle.kpn_ticks.specs.Shown.{AreClocks}
 
 -- ---- lists
 

@@ -1,12 +1,5 @@
 -- A course has the clocks of its events, and a trace has the course of its history. A walk along it takes few steps.
-use Rattle.std.proofs.Common.{◌≡◌, ℕ, ◌+◌, ◌-◌, ◌<◌, ◌≤◌, Bool, true, false, if◌then◌else◌, List, [], ◌∷◌, length, drop, get_or, refl, sym, ap, ◌∙◌, subst, arith}
-use Rattle.std.specs.List.{fold}
-use Rattle.std.proofs.lemmas.List.{drop_more}
-use Rattle.kpn_net.specs.Tables.{Tables}
-use Rattle.kpn_history.specs.declared.event.Event.{Event}
-use Rattle.kpn_ticks.specs.declared.moves.Move.{Move}
-use Rattle.kpn_ticks.specs.Ticks.{clocks_with_event, clocks_after}
-use Rattle.kpn_ticks.specs.Chain.{Course, course_then, course_of, Walk, walk_then, walk_back}
+use Rattle.kpn_ticks.proofs.Common.{◌≡◌, ℕ, ◌+◌, ◌-◌, ◌<◌, ◌≤◌, Bool, true, false, if◌then◌else◌, List, [], ◌∷◌, length, drop, get_or, refl, sym, ap, ◌∙◌, subst, arith, fold, drop_more, Tables, Event, Move, clocks_with_event, clocks_after, Course, course_then, course_of, Walk, walk_then, walk_back}
 use Rattle.kpn_ticks.proofs.Counting.{set_up_to}
 
 -- ---- clocks

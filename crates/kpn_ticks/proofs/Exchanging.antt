@@ -1,14 +1,5 @@
 -- Two events of which each could come first have the same ticks in both orders.
-use Rattle.std.proofs.Common.{◌≡◌, ◌≢◌, ℕ, ◌+◌, ◌-◌, ◌<◌, max, Bool, true, false, nat_lt, cond, List, [], ◌∷◌, ◌++◌, length, set, get_or, Option, Some, None, refl, sym, ap, ◌∙◌, subst, inl, inr, arith}
-use Rattle.std.specs.List.{fold}
-use Rattle.std.proofs.lemmas.Bool.{ltb-false}
-use Rattle.std.proofs.lemmas.Bool.Decides.{eqb_tells}
-use Rattle.std.proofs.lemmas.List.{get_or-set_other, set_comm, get_or_append_left, get_or_default}
-use Rattle.kpn_net.specs.Tables.{Tables, reader_of}
-use Rattle.kpn_history.specs.declared.event.Event.{Event}
-use Rattle.kpn_history.specs.declared.event.Event.TheVariants.{Get, Put, WaitEmpty, WaitFull, Ended, Feed, Close, Take, Leave, Grow}
-use Rattle.kpn_history.specs.Talks.{process_of}
-use Rattle.kpn_ticks.specs.Ticks.{Clocks, latest_of, latest_at, written_of, read_of, item_there, room_there, get_tick, put_tick, with_tick, clocks_with_get, clocks_with_put, clocks_with_event, start, clocks_after}
+use Rattle.kpn_ticks.proofs.Common.{◌≡◌, ◌≢◌, ℕ, ◌+◌, ◌-◌, ◌<◌, max, Bool, true, false, nat_lt, cond, List, [], ◌∷◌, ◌++◌, length, set, get_or, Option, Some, None, refl, sym, ap, ◌∙◌, subst, inl, inr, arith, fold, ltb-false, eqb_tells, get_or-set_other, set_comm, get_or_append_left, get_or_default, Tables, reader_of, Event, Get, Put, WaitEmpty, WaitFull, Ended, Feed, Close, Take, Leave, Grow, process_of, Clocks, latest_of, latest_at, written_of, read_of, item_there, room_there, get_tick, put_tick, with_tick, clocks_with_get, clocks_with_put, clocks_with_event, start, clocks_after}
 use Rattle.kpn_ticks.specs.Reordered.{HasItem, HasRoom, CanBegin, adds_to, takes_from, Differ, AreIndependent, CanChange, IsIdle, AreReordered, same, changed, with_idle, without_idle}
 use Rattle.kpn_ticks.proofs.Counting.{set_cases}
 

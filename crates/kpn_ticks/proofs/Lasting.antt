@@ -1,11 +1,5 @@
 -- The last tick of all is the largest that a process has.
-use Rattle.std.proofs.Common.{◌≡◌, ℕ, zero, suc, ◌≤◌, Bool, true, false, cond, eqb, eq-eqb, List, [], ◌∷◌, ◌++◌, get_or, refl, sym, subst, arith}
-use Rattle.std.specs.List.{fold}
-use Rattle.kpn_net.specs.Tables.{Tables}
-use Rattle.kpn_history.specs.declared.event.Event.{Event}
-use Rattle.kpn_history.specs.declared.event.Event.TheVariants.{Get, Put}
-use Rattle.kpn_ticks.specs.Ticks.{Clocks, get_tick, put_tick, clocks_with_event, start, clocks_after}
-use Rattle.kpn_ticks.specs.Schedules.{seen_from, tick_in, ticks_of}
+use Rattle.kpn_ticks.proofs.Common.{◌≡◌, ℕ, zero, suc, ◌≤◌, Bool, true, false, cond, eqb, eq-eqb, List, [], ◌∷◌, ◌++◌, get_or, refl, sym, subst, arith, fold, Tables, Event, Get, Put, Clocks, get_tick, put_tick, clocks_with_event, start, clocks_after, seen_from, tick_in, ticks_of}
 
 without_first : (b : Bool) (x m : ℕ) (rest : List ℕ) → ((k : ℕ) → get_or (cond b (x ∷ []) [] ++ rest) k 0 ≤ m)
     → (k : ℕ) → get_or rest k 0 ≤ m

@@ -1,15 +1,7 @@
 -- Where one history comes to what another one has come to.
-use Rattle.std.proofs.Common.{◌≡◌, ℕ, zero, suc, ◌+◌, ◌-◌, ◌<◌, ◌≤◌, Bool, true, false, nat_lt, cond, eqb, List, [], ◌∷◌, ◌++◌, length, get_or, Option, Some, None, refl, sym, ap, ◌∙◌, inl, inr, arith}
-use Rattle.std.specs.List.{flat_map}
-use Rattle.std.proofs.lemmas.Bool.{cases_lt, ltb-false, eqb-true}
-use Rattle.std.proofs.lemmas.List.{get_or_past}
-use Rattle.kpn_lang.specs.declared.talk.Said.{Said}
+use Rattle.kpn_ticks.proofs.Common.{◌≡◌, ℕ, zero, suc, ◌+◌, ◌-◌, ◌<◌, ◌≤◌, Bool, true, false, nat_lt, cond, eqb, List, [], ◌∷◌, ◌++◌, length, get_or, Option, Some, None, refl, sym, ap, ◌∙◌, inl, inr, arith, flat_map, cases_lt, ltb-false, eqb-true, get_or_past, Said, IsPrefix, Event, said_in, room_there}
 use Rattle.kpn_lang.specs.declared.talk.Said.TheVariants as said
-use Rattle.kpn_lang.specs.Prefix.{IsPrefix}
-use Rattle.kpn_history.specs.declared.event.Event.{Event}
 use Rattle.kpn_history.specs.declared.event.Event.TheVariants as event
-use Rattle.kpn_history.specs.Talks.{said_in}
-use Rattle.kpn_ticks.specs.Ticks.{room_there}
 use Rattle.kpn_ticks.proofs.Exchanging.{either}
 
 -- ---- beginnings of one list

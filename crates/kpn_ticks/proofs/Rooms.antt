@@ -1,34 +1,11 @@
 -- What the clocks of a legal history say of items and of room.
-use Rattle.std.proofs.Common.{◌≡◌, ◌≢◌, ℕ, zero, ◌+◌, ◌<◌, ◌≤◌, Bool, true, false, not, nat_lt, cond, eqb, eq-eqb, ℤ, List, [], ◌∷◌, ◌++◌, length, set, get_or, Option, Some, None, refl, sym, ap, ◌∙◌, subst, inl, inr, arith}
+use Rattle.kpn_ticks.proofs.Common.{◌≡◌, ◌≢◌, ℕ, zero, ◌+◌, ◌<◌, ◌≤◌, Bool, true, false, not, nat_lt, cond, eqb, eq-eqb, ℤ, List, [], ◌∷◌, ◌++◌, length, set, get_or, Option, Some, None, refl, sym, ap, ◌∙◌, subst, inl, inr, arith, cases_lt, cases_Bool, both_ways, and_cases, or_left, le-leb, lt-ltb, eqb-true, eqb_tells, append-nil, length-append, length-set, get_or-set_same, get_or-set_other, get_or_past, length-map-range_with_len, get_or-map-range_with_len, IsPrefix, got_at, put_at, IsPrefix-after, length_of_prefix, rest_of_prefix, End, Process, Source, Sink, Tables, channel_at, capacity, larger_capacity, writer_of, reader_of, IsNetwork, Event, Get, Put, Feed, Take, Grow, is_of, said_in, talk_of, is_end_of, has_ended, written_in, read_in, written_on, read_on, unread_on, lives, reader_lives, after_growths, capacity_after, reaches, Legal, IsOwn, talk_of-other, written_on-push, Legal-nil, Legal-before, Legal-last, by_events, onward, IsOwn-last, no_source, none_elsewhere, written_on-put, read_on-got, Clocks, latest_of, written_of, read_of, item_there, get_tick, put_tick, grown_from, clocks_with_event, start, clocks_after, tick_in, capacity_in, capacities_of}
 use Rattle.std.specs.Option.{option_map, unwrap_or}
-use Rattle.std.proofs.lemmas.Bool.{cases_lt, cases_Bool, both_ways, and_cases, or_left, le-leb, lt-ltb, eqb-true}
-use Rattle.std.proofs.lemmas.Bool.Decides.{eqb_tells}
-use Rattle.std.proofs.lemmas.List.{append-nil, length-append, length-set, get_or-set_same, get_or-set_other, get_or_past}
-use Rattle.std.proofs.lemmas.List.FromFn.{length-map-range_with_len, get_or-map-range_with_len}
-use Rattle.kpn_lang.specs.Prefix.{IsPrefix}
-use Rattle.kpn_lang.specs.Alone.{got_at, put_at}
-use Rattle.kpn_lang.proofs.Prefixes.{IsPrefix-after, length_of_prefix, rest_of_prefix}
 use Rattle.kpn_lang.proofs.Talks.{got_at-prefix}
-use Rattle.kpn_net.specs.declared.tables.End.{End}
-use Rattle.kpn_net.specs.declared.tables.End.TheVariants.{Process, Source, Sink}
-use Rattle.kpn_net.specs.Tables.{Tables, channel_at, capacity, larger_capacity, writer_of, reader_of}
-use Rattle.kpn_net.specs.Faults.{IsNetwork}
-use Rattle.kpn_history.specs.declared.event.Event.{Event}
-use Rattle.kpn_history.specs.declared.event.Event.TheVariants.{Get, Put, Feed, Take, Grow}
-use Rattle.kpn_history.specs.Talks.{is_of, said_in, talk_of, is_end_of, has_ended}
-use Rattle.kpn_history.specs.Channels.{written_in, read_in, written_on, read_on, unread_on, lives, reader_lives, after_growths, capacity_after, reaches}
-use Rattle.kpn_history.specs.Legal.{Legal}
-use Rattle.kpn_history.specs.OneMore.{IsOwn}
-use Rattle.kpn_history.proofs.Events.{talk_of-other, written_on-push}
-use Rattle.kpn_history.proofs.Legality.{Legal-nil, Legal-before, Legal-last, by_events, onward}
-use Rattle.kpn_history.proofs.Ownership.{IsOwn-last}
-use Rattle.kpn_history.proofs.Journals.{no_source, none_elsewhere, written_on-put, read_on-got}
 use Rattle.kpn_history.proofs.Capacities.{capacity_after-same, capacity_of_growth, below_limit}
 use Rattle.kpn_history.proofs.OneMore.{KeepsConsistent-last, unread_length}
 use Rattle.kpn_history.proofs.AfterEvent.{has_ended-next}
 use Rattle.kpn_history.proofs.WaitsAfter.{alive_before}
-use Rattle.kpn_ticks.specs.Ticks.{Clocks, latest_of, written_of, read_of, item_there, get_tick, put_tick, grown_from, clocks_with_event, start, clocks_after}
-use Rattle.kpn_ticks.specs.Schedules.{tick_in, capacity_in, capacities_of}
 use Rattle.kpn_ticks.proofs.Counting.{all_alike, pushed_cases}
 use Rattle.kpn_ticks.proofs.Seen.{seen_push, seen_length, clocks_push, have_places, wrote, took, written_then, read_then, written_seen, read_seen, last_tick, latest_then}
 

@@ -1,28 +1,6 @@
 -- The ticks of a legal history come from what its processes say, and from the capacities at their puts.
-use Rattle.std.proofs.Common.{◌≡◌, ◌≢◌, ℕ, ◌+◌, ◌-◌, ◌<◌, ◌≤◌, max, Bool, true, nat_lt, cond, eqb, eq-eqb, ℤ, List, [], ◌∷◌, ◌++◌, length, get_or, Option, Some, None, refl, sym, ap, ◌∙◌, subst, inl, inr, arith}
-use Rattle.std.proofs.lemmas.Bool.{ne_eqb}
-use Rattle.std.proofs.lemmas.Bool.Decides.{eqb_tells}
-use Rattle.std.proofs.lemmas.List.{append-nil}
-use Rattle.kpn_lang.specs.declared.talk.Said.{Said}
+use Rattle.kpn_ticks.proofs.Common.{◌≡◌, ◌≢◌, ℕ, ◌+◌, ◌-◌, ◌<◌, ◌≤◌, max, Bool, true, nat_lt, cond, eqb, eq-eqb, ℤ, List, [], ◌∷◌, ◌++◌, length, get_or, Option, Some, None, refl, sym, ap, ◌∙◌, subst, inl, inr, arith, ne_eqb, eqb_tells, append-nil, Said, IsPrefix, got_at, put_at, IsPrefix-refl, IsPrefix-trans, IsPrefix-append, End, Process, Source, Sink, Tables, writer_of, reader_of, IsNetwork, Event, Get, Put, Feed, Take, said_in, talk_of, has_ended, Legal, IsOwn, talk_of-push, Legal-prefix, Legal-before, by_events, IsOwn-last, said_by, no_source, no_sink, Clocks, latest_of, latest_at, written_of, read_of, item_there, room_there, get_tick, put_tick, start, clocks_after, tick_in, ticks_of, capacity_in, capacities_of, DifferBySchedule}
 use Rattle.kpn_lang.specs.declared.talk.Said.TheVariants as said
-use Rattle.kpn_lang.specs.Prefix.{IsPrefix}
-use Rattle.kpn_lang.specs.Alone.{got_at, put_at}
-use Rattle.kpn_lang.proofs.Prefixes.{IsPrefix-refl, IsPrefix-trans, IsPrefix-append}
-use Rattle.kpn_net.specs.declared.tables.End.{End}
-use Rattle.kpn_net.specs.declared.tables.End.TheVariants.{Process, Source, Sink}
-use Rattle.kpn_net.specs.Tables.{Tables, writer_of, reader_of}
-use Rattle.kpn_net.specs.Faults.{IsNetwork}
-use Rattle.kpn_history.specs.declared.event.Event.{Event}
-use Rattle.kpn_history.specs.declared.event.Event.TheVariants.{Get, Put, Feed, Take}
-use Rattle.kpn_history.specs.Talks.{said_in, talk_of, has_ended}
-use Rattle.kpn_history.specs.Legal.{Legal}
-use Rattle.kpn_history.specs.OneMore.{IsOwn}
-use Rattle.kpn_history.proofs.Events.{talk_of-push}
-use Rattle.kpn_history.proofs.Legality.{Legal-prefix, Legal-before, by_events}
-use Rattle.kpn_history.proofs.Ownership.{IsOwn-last, said_by}
-use Rattle.kpn_history.proofs.Journals.{no_source, no_sink}
-use Rattle.kpn_ticks.specs.Ticks.{Clocks, latest_of, latest_at, written_of, read_of, item_there, room_there, get_tick, put_tick, start, clocks_after}
-use Rattle.kpn_ticks.specs.Schedules.{tick_in, ticks_of, capacity_in, capacities_of, DifferBySchedule}
 use Rattle.kpn_ticks.proofs.Counting.{room_from}
 use Rattle.kpn_ticks.proofs.Seen.{seen, seen_push, seen_grows, seen_length, wrote, took, written_seen, read_seen, last_tick, latest_seen}
 use Rattle.kpn_ticks.proofs.Meeting.{same_beginning, same_next, at_beginning, goes_on, says_one, event_of, one_event, same_room}

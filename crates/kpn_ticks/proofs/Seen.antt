@@ -1,17 +1,5 @@
 -- What the events of a legal history show makes up its clocks.
-use Rattle.std.proofs.Common.{◌≡◌, ℕ, ◌+◌, ◌<◌, Bool, cond, eqb, List, [], ◌∷◌, ◌++◌, length, set, get_or, refl, sym, ap, ◌∙◌, subst, inl, inr}
-use Rattle.std.specs.List.{fold, flat_map}
-use Rattle.std.proofs.lemmas.Bool.Decides.{eqb_tells}
-use Rattle.std.proofs.lemmas.List.{append_assoc, append-nil, length-append, length-set, length-replicate, get_or-set_same, get_or-set_other}
-use Rattle.kpn_lang.specs.Prefix.{IsPrefix}
-use Rattle.kpn_lang.proofs.Prefixes.{IsPrefix-append, rest_of_prefix}
-use Rattle.kpn_net.specs.Tables.{Tables}
-use Rattle.kpn_history.specs.declared.event.Event.{Event}
-use Rattle.kpn_history.specs.declared.event.Event.TheVariants.{Get, Put, Feed, Take, Grow}
-use Rattle.kpn_history.specs.Legal.{HasNumbers, Legal}
-use Rattle.kpn_history.proofs.Legality.{Legal-last, by_events}
-use Rattle.kpn_ticks.specs.Ticks.{Clocks, latest_of, written_of, read_of, item_there, get_tick, put_tick, with_tick, clocks_with_event, start, clocks_after}
-use Rattle.kpn_ticks.specs.Schedules.{seen_from, tick_in, ticks_of}
+use Rattle.kpn_ticks.proofs.Common.{◌≡◌, ℕ, ◌+◌, ◌<◌, Bool, cond, eqb, List, [], ◌∷◌, ◌++◌, length, set, get_or, refl, sym, ap, ◌∙◌, subst, inl, inr, fold, flat_map, eqb_tells, append_assoc, append-nil, length-append, length-set, length-replicate, get_or-set_same, get_or-set_other, IsPrefix, IsPrefix-append, rest_of_prefix, Tables, Event, Get, Put, Feed, Take, Grow, HasNumbers, Legal, Legal-last, by_events, Clocks, latest_of, written_of, read_of, item_there, get_tick, put_tick, with_tick, clocks_with_event, start, clocks_after, seen_from, tick_in, ticks_of}
 use Rattle.kpn_ticks.proofs.Counting.{all_alike}
 use Rattle.kpn_ticks.proofs.Exchanging.{fold_along}
 

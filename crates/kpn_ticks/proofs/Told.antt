@@ -1,15 +1,8 @@
 -- The clocks after the events of a trace, and their course, are those of its history. The two differ only in the
 -- capacities of growths, which neither looks at.
-use Rattle.std.proofs.Common.{◌≡◌, Bool, List, [], ◌∷◌, ◌++◌, refl, ap, ◌∙◌}
-use Rattle.std.specs.List.{fold}
-use Rattle.kpn_net.specs.Tables.{Tables}
-use Rattle.kpn_history.specs.declared.event.Event.{Event}
-use Rattle.kpn_history.specs.declared.event.Event.TheVariants.{Grow}
+use Rattle.kpn_ticks.proofs.Common.{◌≡◌, Bool, List, [], ◌∷◌, ◌++◌, refl, ap, ◌∙◌, fold, Tables, Event, Grow, told, told_behind, history_of, Clocks, clocks_with_event, start, clocks_after, Course, course_then, walk_back, walk_start, shares_of}
 use Rattle.kpn_history.specs.declared.stored.Version.{Version}
 use Rattle.kpn_history.specs.declared.stored.Version.TheVariants.{One, Two}
-use Rattle.kpn_audit.specs.Stored.{told, told_behind, history_of}
-use Rattle.kpn_ticks.specs.Ticks.{Clocks, clocks_with_event, start, clocks_after}
-use Rattle.kpn_ticks.specs.Chain.{Course, course_then, walk_back, walk_start, shares_of}
 
 pub same_after : (t told_of : Tables) (s : Clocks) (B : List Event) (event : Event)
     → clocks_with_event t s (told told_of B event) ≡ clocks_with_event t s event

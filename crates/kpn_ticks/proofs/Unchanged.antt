@@ -1,25 +1,5 @@
 -- The capacities at the puts, if no channel grows or none has a capacity.
-use Rattle.std.proofs.Common.{◌≡◌, ◌≢◌, ◌⊎◌, ℕ, Bool, true, false, ◌||◌, cond, eqb, List, [], ◌∷◌, ◌++◌, length, set, get_or, replicate, Option, None, refl, sym, ap, ◌∙◌, subst, inl, inr, arith}
-use Rattle.std.specs.List.{list_any}
-use Rattle.std.proofs.lemmas.Bool.{cases_lt, both_ways, or_parts, ne_eqb, eqb-true}
-use Rattle.std.proofs.lemmas.Bool.Decides.{eqb_tells}
-use Rattle.std.proofs.lemmas.List.{length-set, get_or-set_same, get_or-set_other, get_or_past}
-use Rattle.kpn_lang.specs.Alone.{put_at}
-use Rattle.kpn_net.specs.declared.tables.End.{End}
-use Rattle.kpn_net.specs.declared.tables.End.TheVariants.{Process, Source, Sink}
-use Rattle.kpn_net.specs.Tables.{Tables, writer_of}
-use Rattle.kpn_net.specs.Faults.{IsNetwork}
-use Rattle.kpn_history.specs.declared.event.Event.{Event}
-use Rattle.kpn_history.specs.declared.event.Event.TheVariants.{Put, Grow}
-use Rattle.kpn_history.specs.Talks.{talk_of}
-use Rattle.kpn_history.specs.Channels.{is_growth_of}
-use Rattle.kpn_history.specs.Legal.{Legal}
-use Rattle.kpn_history.specs.OneMore.{IsOwn}
-use Rattle.kpn_history.proofs.Legality.{by_events}
-use Rattle.kpn_history.proofs.Ownership.{IsOwn-last}
-use Rattle.kpn_history.proofs.Journals.{written_on-put}
-use Rattle.kpn_ticks.specs.Ticks.{Clocks, grown_from, clocks_with_event, start, clocks_after}
-use Rattle.kpn_ticks.specs.Schedules.{seen_from, capacity_in, capacities_of, GrowsNothing, DifferBySchedule}
+use Rattle.kpn_ticks.proofs.Common.{◌≡◌, ◌≢◌, ◌⊎◌, ℕ, Bool, true, false, ◌||◌, cond, eqb, List, [], ◌∷◌, ◌++◌, length, set, get_or, replicate, Option, None, refl, sym, ap, ◌∙◌, subst, inl, inr, arith, list_any, cases_lt, both_ways, or_parts, ne_eqb, eqb-true, eqb_tells, length-set, get_or-set_same, get_or-set_other, get_or_past, put_at, End, Process, Source, Sink, Tables, writer_of, IsNetwork, Event, Put, Grow, talk_of, is_growth_of, Legal, IsOwn, by_events, IsOwn-last, written_on-put, Clocks, grown_from, clocks_with_event, start, clocks_after, seen_from, capacity_in, capacities_of, GrowsNothing, DifferBySchedule}
 use Rattle.kpn_ticks.proofs.Counting.{all_alike}
 use Rattle.kpn_ticks.proofs.Seen.{seen_push}
 use Rattle.kpn_ticks.proofs.Rooms.{not_source, not_sink, capacities_counted}

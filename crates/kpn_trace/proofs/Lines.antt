@@ -1,19 +1,8 @@
 -- The line of an event: its kind comes before the first space, it has no line feed, and the event has no other line.
-use Rattle.std.proofs.Common.{◌≡◌, ℕ, ◌^◌, ◌<◌, List, [], ◌∷◌, ◌++◌, Bool, true, false, Option, Some, None, refl, sym, ap, ◌∙◌, subst, arith}
-use Rattle.std.specs.Prelude.{ℤ, FitsSigned, MatchOption, nat_eq}
-use Rattle.std.specs.Int.{w64}
-use Rattle.std.specs.List.{find}
-use Rattle.std.specs.Str.{bytes_eq}
-use Rattle.std.proofs.lemmas.Bool.{cond_both}
+use Rattle.kpn_trace.proofs.Common.{◌≡◌, ℕ, ◌^◌, ◌<◌, List, [], ◌∷◌, ◌++◌, Bool, true, false, Option, Some, None, refl, sym, ap, ◌∙◌, subst, arith, ℤ, FitsSigned, MatchOption, nat_eq, w64, find, bytes_eq, cond_both, decimal, signed_decimal, decimal_injective, Event, Get, Put, WaitEmpty, WaitFull, Ended, Feed, Close, Take, Leave, Grow, Version, One, Two}
 use Rattle.std.proofs.lemmas.Slice.Eq.{bytes_eq-Decides}
-use Rattle.std.specs.Fmt.{decimal, signed_decimal}
-use Rattle.std.proofs.lemmas.Fmt.{decimal_injective}
-use Rattle.kpn_history.specs.declared.event.Event.{Event}
-use Rattle.kpn_history.specs.declared.event.Event.TheVariants.{Get, Put, WaitEmpty, WaitFull, Ended, Feed, Close, Take, Leave, Grow}
 use Rattle.kpn_history.specs.declared.event.How.{How}
 use Rattle.kpn_history.specs.declared.event.How.TheVariants as how
-use Rattle.kpn_history.specs.declared.stored.Version.{Version}
-use Rattle.kpn_history.specs.declared.stored.Version.TheVariants.{One, Two}
 use Rattle.kpn_trace.specs.declared.kind.Kind.{Kind}
 use Rattle.kpn_trace.specs.declared.kind.Kind.TheVariants as kind
 use Rattle.kpn_trace.specs.EventLine.{kind_word, every_kind, kind_named, how_word, event_kind, arguments_of, spaced, line_of, LacksByte, IsInRange, SpellsEvent}

@@ -1,17 +1,8 @@
 -- A word that spells an item is its canonical form if no zero stands in front of its other digits.
-use Rattle.std.proofs.Common.{◌≡◌, ℕ, zero, suc, ◌^◌, ◌<◌, Bool, true, false, eqb, List, [], ◌∷◌, length, get_or, drop, refl, sym, ap, ◌∙◌, subst, arith, lit<}
-use Rattle.std.specs.Prelude.{ℤ, pos, negsuc, neg_ℤ, FitsSigned}
-use Rattle.std.specs.Int.{w64}
-use Rattle.std.specs.Fmt.{decimal, signed_decimal}
-use Rattle.std.specs.Str.Parse.{AllDigits, digits_value}
+use Rattle.kpn_trace.proofs.Common.{◌≡◌, ℕ, zero, suc, ◌^◌, ◌<◌, Bool, true, false, eqb, List, [], ◌∷◌, length, get_or, drop, refl, sym, ap, ◌∙◌, subst, arith, lit<, ℤ, pos, negsuc, neg_ℤ, FitsSigned, w64, decimal, signed_decimal, AllDigits, digits_value, cond-false, eqb-true, nat_tests, decimal_digit, decimal_is_IsNumeral, decimal-digits_value, first_decimal, ints, SpellsItem, IsShortNumeral, without_minus}
 use Rattle.std.proofs.Math.Nat.{pow-le-pow_right}
-use Rattle.std.proofs.lemmas.Bool.{cond-false, eqb-true}
-use Rattle.std.proofs.lemmas.Bool.Decides.{nat_tests}
-use Rattle.std.proofs.lemmas.Fmt.{decimal_digit, decimal_is_IsNumeral, decimal-digits_value, first_decimal}
-use Rattle.std.proofs.lemmas.Int.{ints}
 use Rattle.std.proofs.lemmas.Int.Digits.{digits_value-lt}
 use Rattle.std.proofs.lemmas.Str.Parse.{numerals_by_value, tells_digits}
-use Rattle.kpn_text_items.specs.ItemLine.{SpellsItem, IsShortNumeral, without_minus}
 
 -- a number above 0 begins with no zero
 no_zero : (n : ℕ) (ds : List ℕ) → 0 < n → n < 2 ^ 64 → 48 ∷ ds ≡ decimal n → ⊥

@@ -1,26 +1,10 @@
 -- Words: what comes before the first byte that parts them, and which bytes numbers and words lack.
-use Rattle.std.proofs.Common.{◌≡◌, ℕ, zero, suc, ◌+◌, ◌-◌, ◌^◌, ◌<◌, ◌≤◌, Bool, true, false, eqb, List, [], ◌∷◌, ◌++◌, length, get_or, take, drop, Some, None, refl, sym, ap, ◌∙◌, subst, arith}
-use Rattle.std.specs.Prelude.{ℤ, pos, negsuc, FitsSigned, ◌||◌}
-use Rattle.std.specs.Int.{w64}
-use Rattle.std.specs.List.{list_any, position, position_or_len}
-use Rattle.std.specs.Fmt.{decimal, signed_decimal}
-use Rattle.std.specs.Str.Parse.{AllDigits}
-use Rattle.std.proofs.lemmas.Bool.{ne_eqb, eqb-true}
-use Rattle.std.proofs.lemmas.Bool.Decides.{nat_tests}
-use Rattle.std.proofs.lemmas.Grind.{common_steps}
-use Rattle.std.proofs.lemmas.List.{take_rest}
+use Rattle.kpn_trace.proofs.Common.{◌≡◌, ℕ, zero, suc, ◌+◌, ◌-◌, ◌^◌, ◌<◌, ◌≤◌, Bool, true, false, eqb, List, [], ◌∷◌, ◌++◌, length, get_or, take, drop, Some, None, refl, sym, ap, ◌∙◌, subst, arith, ℤ, pos, negsuc, FitsSigned, ◌||◌, w64, list_any, position, position_or_len, decimal, signed_decimal, AllDigits, ne_eqb, eqb-true, nat_tests, common_steps, take_rest, decimal_is_IsNumeral, decimal_injective, signed_decimal_injective, ints, MatchOption, Result, Ok, Err, unsigned_abs, FitsUnsignedBits, OkIff, result_ok, SpellsItem, LacksByte}
 use Rattle.std.proofs.lemmas.List.Quantifiers.{position-Some}
 use Rattle.std.proofs.lemmas.List.Sums.{fails_before_first}
 use Rattle.std.proofs.Math.Seq.{take-length}
-use Rattle.std.proofs.lemmas.Fmt.{decimal_is_IsNumeral, decimal_injective, signed_decimal_injective}
-use Rattle.std.proofs.lemmas.Int.{ints}
 use lib.Signed.{mag}
-use Rattle.std.specs.Prelude.{MatchOption, Result, Ok, Err, unsigned_abs}
-use Rattle.std.specs.Int.{FitsUnsignedBits}
-use Rattle.std.specs.Result.{OkIff, result_ok}
-use Rattle.kpn_text_items.specs.ItemLine.{SpellsItem}
 use Rattle.kpn_text_items.proofs.LawLemmas.{spells_decimal}
-use Rattle.kpn_trace.specs.EventLine.{LacksByte}
 
 -- ---- bytes that lack one byte
 

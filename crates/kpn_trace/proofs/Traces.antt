@@ -1,24 +1,13 @@
 -- Whole traces: their lines taken off one after another, and the laws.
-use Rattle.std.proofs.Common.{◌≡◌, ℕ, suc, ◌+◌, Bool, true, false, List, [], ◌∷◌, ◌++◌, length, take, get_or, Option, Some, refl, sym, ap, ◌∙◌, subst, arith, append_assoc, append-nil}
+use Rattle.kpn_trace.proofs.Common.{◌≡◌, ℕ, suc, ◌+◌, Bool, true, false, List, [], ◌∷◌, ◌++◌, length, take, get_or, Option, Some, refl, sym, ap, ◌∙◌, subst, arith, append_assoc, append-nil, bytes_eq, false≢true, Appends, slice_get_within, get_or_from_slice_get, take_more, All-head, All-tail, Event, Version, One, Two, line_of, IsInRange, SpellsEvent, LacksByte, version_line, rules_line, head_text, IsHead, head_lines, event_text, events_text, trace_text, HasBadHead}
 use Rattle.std.specs.List.{All, slice_get}
-use Rattle.std.specs.Str.{bytes_eq}
-use Rattle.std.proofs.lemmas.Bool.{false≢true}
-use Rattle.std.specs.Io.KnownBytes.{Appends}
 use Rattle.std.proofs.KnownBytes.{Appends-trans}
-use Rattle.std.proofs.lemmas.Option.{slice_get_within, get_or_from_slice_get}
-use Rattle.std.proofs.lemmas.List.{take_more}
 use Rattle.std.proofs.lemmas.List.Concat.{flat_map-append}
-use Rattle.std.proofs.lemmas.List.Elements.{All-head, All-tail}
-use Rattle.kpn_history.specs.declared.event.Event.{Event}
 use Rattle.kpn_net.specs.declared.tables.Policy.{Policy}
 use Rattle.kpn_net.specs.declared.tables.Policy.TheVariants as policies
 use Rattle.kpn_net.specs.declared.tables.Growth.{Growth}
 use Rattle.kpn_net.specs.declared.tables.Growth.TheVariants as growths
-use Rattle.kpn_history.specs.declared.stored.Version.{Version}
-use Rattle.kpn_history.specs.declared.stored.Version.TheVariants.{One, Two}
 use Rattle.kpn_trace.specs.declared.fault.TraceFault.TheVariants.{BadHead, BadEvent, NoMemory}
-use Rattle.kpn_trace.specs.EventLine.{line_of, IsInRange, SpellsEvent, LacksByte}
-use Rattle.kpn_trace.specs.TraceText.{version_line, rules_line, head_text, IsHead, head_lines, event_text, events_text, trace_text, HasBadHead}
 use Rattle.kpn_trace.specs.Laws.{TraceSpellsOne, SpelledIsRead, OneBadLine}
 use Rattle.kpn_trace.proofs.Parting.{cut}
 use Rattle.kpn_trace.proofs.Lines.{line_spells_one, line_lacks_feed}

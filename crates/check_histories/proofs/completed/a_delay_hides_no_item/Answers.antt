@@ -1,5 +1,4 @@
-use Rattle.std.proofs.Common.{[], ◌∷◌, refl, lit<}
-use Rattle.kpn_history.proofs.EndTests.{is_clogged_at-true}
+use Rattle.check_histories.proofs.Common.{[], ◌∷◌, refl, lit<, is_clogged_at-true}
 use Rattle.check_histories.specs.Networks.{delayed_network}
 use Rattle.check_histories.specs.Runs.{delayed_run}
 use Rattle.check_histories.proofs.NetworkTests.{network-true}

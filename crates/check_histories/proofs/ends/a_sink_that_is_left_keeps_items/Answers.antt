@@ -1,5 +1,4 @@
-use Rattle.std.proofs.Common.{refl}
-use Rattle.kpn_history.specs.Channels.{fed}
+use Rattle.check_histories.proofs.Common.{refl, fed}
 use Rattle.check_histories.specs.Networks.{copy_network}
 use Rattle.check_histories.specs.Runs.{copy_run, left_after_one_run}
 use Rattle.check_histories.proofs.FinalTests.{final_run, copy_fed, left_fed}

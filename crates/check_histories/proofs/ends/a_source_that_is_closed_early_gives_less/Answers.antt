@@ -1,5 +1,4 @@
-use Rattle.std.proofs.Common.{refl}
-use Rattle.kpn_history.proofs.EndTests.{is_settled-true}
+use Rattle.check_histories.proofs.Common.{refl, is_settled-true}
 use Rattle.check_histories.specs.Networks.{copy_network}
 use Rattle.check_histories.specs.Runs.{early_close_run}
 use Rattle.check_histories.proofs.GrowthTests.{owes_none-true}

@@ -1,5 +1,4 @@
-use Rattle.std.proofs.Common.{[], take, refl}
-use Rattle.kpn_history.proofs.EndTests.{is_settled-true}
+use Rattle.check_histories.proofs.Common.{[], take, refl, is_settled-true}
 use Rattle.check_histories.specs.Networks.{resolved_network}
 use Rattle.check_histories.specs.Runs.{resolved_run}
 use Rattle.check_histories.proofs.FinalTests.{run_from, final_run, fed_nothing}

@@ -1,5 +1,4 @@
-use Rattle.std.proofs.Common.{refl}
-use Rattle.kpn_lang.proofs.Prefixes.{IsPrefix-refl}
+use Rattle.check_histories.proofs.Common.{refl, IsPrefix-refl}
 use Rattle.check_histories.specs.Networks.{copy_network}
 use Rattle.check_histories.specs.Cuts.{chain_network, chain_cut}
 use Rattle.check_histories.specs.Orders.{twice_order}

@@ -1,5 +1,4 @@
-use Rattle.std.specs.Prelude.{slice_index_or}
-use Rattle.std.proofs.Common.{ℕ, zero, suc, ◌<◌, take, refl, lit<, arith}
+use Rattle.check_histories.proofs.Common.{slice_index_or, ℕ, zero, suc, ◌<◌, take, refl, lit<, arith}
 use Rattle.std.proofs.lemmas.List.Elements.{Contains-get_or}
 use Rattle.kpn_history.specs.declared.event.How.TheVariants as how
 use Rattle.kpn_history.specs.declared.event.Event.TheVariants as event

@@ -1,5 +1,4 @@
-use Rattle.std.proofs.Common.{refl}
-use Rattle.kpn_history.proofs.EndTests.{is_jammed_at-true}
+use Rattle.check_histories.proofs.Common.{refl, is_jammed_at-true}
 use Rattle.check_histories.specs.Networks.{cycle_below_limit, cycle_at_limit}
 use Rattle.check_histories.specs.Runs.{cycle_goes_first_run, other_grows_run}
 use Rattle.check_histories.proofs.Claiming.{runs_to_its_end}

@@ -1,5 +1,4 @@
-use Rattle.std.proofs.Common.{refl}
-use Rattle.kpn_history.proofs.EndTests.{is_jammed_at-true}
+use Rattle.check_histories.proofs.Common.{refl, is_jammed_at-true}
 use Rattle.check_histories.specs.Networks.{two_at_limit}
 use Rattle.check_histories.specs.Runs.{two_at_limit_run}
 use Rattle.check_histories.proofs.NetworkTests.{network-true}

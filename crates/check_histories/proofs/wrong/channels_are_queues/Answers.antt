@@ -1,5 +1,4 @@
-use Rattle.std.proofs.Common.{arith, lit<, refl, ◌≤◌}
-use Rattle.kpn_history.proofs.Legality.{Legal-consistent}
+use Rattle.check_histories.proofs.Common.{arith, lit<, refl, ◌≤◌, Legal-consistent}
 use Rattle.check_histories.specs.Networks.{copy_network, two_network}
 use Rattle.check_histories.specs.Runs.{two_run}
 use Rattle.check_histories.specs.WrongLists.{gets_the_newest, gets_once_more, takes_once_more, puts_into_a_full_channel}

@@ -1,6 +1,4 @@
-use Rattle.std.proofs.Common.{arith, lit<, refl, ◌≤◌}
-use Rattle.kpn_history.specs.declared.event.Event.TheVariants.{Grow}
-use Rattle.kpn_history.proofs.Legality.{Legal-consistent}
+use Rattle.check_histories.proofs.Common.{arith, lit<, refl, ◌≤◌, Grow, Legal-consistent}
 use Rattle.check_histories.specs.Networks.{doubling_network, one_more_network, doubling_to_limit_network}
 use Rattle.check_histories.specs.Runs.{doubling_run, doubled_to_limit_run}
 use Rattle.check_histories.specs.WrongLists.{puts_as_if_doubled, puts_past_the_limit, grows_past_the_limit, tells_too_small_a_capacity, tells_too_large_a_capacity}

@@ -1,5 +1,4 @@
-use Rattle.std.proofs.Common.{refl}
-use Rattle.kpn_history.specs.declared.event.Event.TheVariants.{Grow, Leave}
+use Rattle.check_histories.proofs.Common.{refl, Grow, Leave}
 use Rattle.check_histories.specs.Networks.{two_network, clogged_network, two_at_limit, larger_network, tie_network}
 use Rattle.check_histories.specs.Runs.{two_run, clogged_run, two_at_limit_run, larger_run, tie_run}
 use Rattle.check_histories.specs.WrongLists.{growth_left_out, grows_another_channel, grows_for_the_reader, grows_at_first, grows_twice, grows_without_a_cycle, grows_at_the_limit, grows_the_larger, grows_for_its_writer, grows_the_greater_number}

@@ -1,6 +1,4 @@
-use Rattle.std.proofs.Common.{arith, lit<, refl, ◌≤◌}
-use Rattle.kpn_history.specs.declared.event.Event.TheVariants.{Grow, Leave}
-use Rattle.kpn_history.proofs.Legality.{Legal-consistent}
+use Rattle.check_histories.proofs.Common.{arith, lit<, refl, ◌≤◌, Grow, Leave, Legal-consistent}
 use Rattle.check_histories.specs.Networks.{resolved_network, resolved_to_limit_network, small_full_network, outside_network, cycle_below_limit}
 use Rattle.check_histories.specs.Runs.{close_settles_run, small_full_run, reader_waits_last_run, cycle_goes_first_run, resolved_to_limit_run}
 use Rattle.check_histories.specs.WrongLists.{grows_while_one_is_ready, grows_before_the_close, grows_where_nobody_waits, grows_for_the_last_to_wait, growth_at_stop_left_out, passes_over_the_cycle, doubles_past_the_limit, puts_past_the_doubled}

@@ -1,7 +1,5 @@
-use Rattle.std.specs.Prelude.{pos}
-use Rattle.std.proofs.Common.{arith, refl, ◌<◌}
+use Rattle.check_histories.proofs.Common.{pos, arith, refl, ◌<◌, Ended, Get, Put}
 use Rattle.kpn_history.specs.declared.event.How.TheVariants as how
-use Rattle.kpn_history.specs.declared.event.Event.TheVariants.{Ended, Get, Put}
 use Rattle.check_histories.specs.Networks.{ended_reader_network}
 use Rattle.check_histories.specs.WrongLists.{nobody_puts, nobody_gets, nobody_ends, nobody_puts_nowhere}
 use Rattle.check_histories.proofs.Claiming.{breaks_by}

@@ -1,7 +1,5 @@
-use Rattle.std.proofs.Common.{lit<, refl}
+use Rattle.check_histories.proofs.Common.{lit<, refl, Ended, WaitEmpty, WaitFull, Legal-consistent}
 use Rattle.kpn_history.specs.declared.event.How.TheVariants as how
-use Rattle.kpn_history.specs.declared.event.Event.TheVariants.{Ended, WaitEmpty, WaitFull}
-use Rattle.kpn_history.proofs.Legality.{Legal-consistent}
 use Rattle.check_histories.specs.Networks.{two_network, zero_divisor_network, overflow_network}
 use Rattle.check_histories.specs.Runs.{two_run}
 use Rattle.check_histories.specs.WrongLists.{puts_another_item, gets_out_of_turn, puts_for_a_fault, ends_too_early, ends_as_done, ends_as_overflow, ends_as_zero_divisor, waits_where_it_does_not_read, waits_where_it_does_not_write}

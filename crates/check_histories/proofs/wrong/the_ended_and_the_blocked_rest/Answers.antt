@@ -1,6 +1,5 @@
-use Rattle.std.proofs.Common.{refl}
+use Rattle.check_histories.proofs.Common.{refl, Ended, WaitEmpty}
 use Rattle.kpn_history.specs.declared.event.How.TheVariants as how
-use Rattle.kpn_history.specs.declared.event.Event.TheVariants.{Ended, WaitEmpty}
 use Rattle.check_histories.specs.Networks.{ended_reader_network, two_readers_network}
 use Rattle.check_histories.specs.WrongLists.{ends_twice, waits_while_blocked}
 use Rattle.check_histories.proofs.Claiming.{breaks_by}

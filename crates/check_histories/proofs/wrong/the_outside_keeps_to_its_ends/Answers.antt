@@ -1,6 +1,4 @@
-use Rattle.std.specs.Prelude.{pos}
-use Rattle.std.proofs.Common.{refl}
-use Rattle.kpn_history.specs.declared.event.Event.TheVariants.{Close, Feed, Leave, Take}
+use Rattle.check_histories.proofs.Common.{pos, refl, Close, Feed, Leave, Take}
 use Rattle.check_histories.specs.Networks.{two_network, copy_network}
 use Rattle.check_histories.specs.WrongLists.{feeds_no_source, feeds_after_the_close, closes_no_source, closes_twice, takes_from_no_sink, takes_after_the_leave, leaves_no_sink, leaves_twice}
 use Rattle.check_histories.proofs.Claiming.{breaks_by}

@@ -1,5 +1,4 @@
-use Rattle.std.proofs.Common.{refl}
-use Rattle.kpn_history.specs.declared.event.Event.TheVariants.{WaitEmpty, WaitFull}
+use Rattle.check_histories.proofs.Common.{refl, WaitEmpty, WaitFull}
 use Rattle.check_histories.specs.Networks.{copy_network, two_network, ended_reader_network}
 use Rattle.check_histories.specs.WrongLists.{waits_for_an_unread_item, waits_with_room, waits_for_an_ended_reader, waits_for_a_left_sink}
 use Rattle.check_histories.proofs.Claiming.{breaks_by}

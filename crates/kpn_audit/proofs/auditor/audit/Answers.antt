@@ -1,10 +1,6 @@
 -- What holds of the events under their rules holds of the trace.
-use Rattle.std.proofs.Common.{◌≡◌, ◌⊎◌, ℕ, length, true, Result, Ok, Err, IfOk, IfErr, refl}
-use Rattle.std.proofs.lemmas.Result.{IfErr-weaker}
-use Rattle.kpn_history.specs.declared.stored.Version.TheVariants.{One, Two}
-use Rattle.kpn_history.specs.Legal.{Legal}
+use Rattle.kpn_audit.proofs.Common.{◌≡◌, ◌⊎◌, ℕ, length, true, Result, Ok, Err, IfOk, IfErr, refl, IfErr-weaker, One, Two, Legal, IsAudit, AreLeast, AreWithinSteps, IsFault}
 use Rattle.kpn_audit.specs.declared.findings.AuditFault.TheVariants.{NoMemory, Budget}
-use Rattle.kpn_audit.specs.Audit.{IsAudit, AreLeast, AreWithinSteps, IsFault}
 use Rattle.kpn_audit.proofs.Telling.{of_trace, one_agrees, plain_tables, refuses_trace}
 use Rattle.kpn_audit.proofs.auditor.audit.Goals as goal
 

@@ -1,12 +1,5 @@
 -- A legal list has no event that is illegal, and if it is quiet its journals are the least solution.
-use Rattle.std.proofs.Common.{◌≡◌, ◌⊎◌, ℕ, List, inl, inr, refl}
-use Rattle.std.proofs.lemmas.Result.{err_from_is_err_and}
-use Rattle.kpn_history.specs.Legal.{Legal}
-use Rattle.kpn_net.specs.Tables.{Tables}
-use Rattle.kpn_history.specs.declared.event.Event.{Event}
-use Rattle.kpn_audit.specs.Audit.{IsFault}
-use Rattle.kpn_audit.specs.Stored.{history_of}
-use Rattle.kpn_audit.specs.declared.findings.AuditFault.{AuditFault}
+use Rattle.kpn_audit.proofs.Common.{◌≡◌, ◌⊎◌, ℕ, List, inl, inr, refl, err_from_is_err_and, Legal, Tables, Event, IsFault, history_of, AuditFault}
 use Rattle.kpn_audit.specs.declared.findings.AuditFault.TheVariants.{Illegal, NoMemory, Budget, PolicyDiffers}
 use Rattle.kpn_audit.proofs.Replaying.{never_illegal}
 use Rattle.kpn_audit.proofs.Summed.{least_where_exact}

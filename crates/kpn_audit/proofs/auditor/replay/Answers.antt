@@ -1,14 +1,7 @@
 -- What is found of an event is said of the events before it, and of the place where it stands.
-use Rattle.std.proofs.Common.{◌≡◌, pos, take, subst, arith}
-use Rattle.std.proofs.lemmas.List.{take_all}
-use Rattle.kpn_history.specs.declared.event.Event.TheVariants.{Get}
-use Rattle.kpn_history.proofs.Growth.{none_owed_at_first}
-use Rattle.kpn_machine.specs.Run.{IsRun}
-use Rattle.kpn_audit.specs.declared.judged.Judged.{Judged}
+use Rattle.kpn_audit.proofs.Common.{◌≡◌, pos, take, subst, arith, take_all, Get, none_owed_at_first, IsRun, Judged, ArePlaces, Owes, history_of}
 use Rattle.kpn_audit.specs.declared.judged.Judged.TheVariants.{Follows, Illegal, Budget}
-use Rattle.kpn_audit.specs.Judged.{ArePlaces, Owes}
 use Rattle.kpn_audit.proofs.Replaying.{IsReplayed, LeadsTo, leads_to, none_within, ok_apart}
-use Rattle.kpn_audit.specs.Stored.{history_of}
 use Rattle.kpn_audit.proofs.Telling.{told_there, is_there, history_of-length}
 use Rattle.kpn_audit.proofs.auditor.replay.Given as given
 use Rattle.kpn_audit.proofs.auditor.replay.Goals as goal

@@ -1,10 +1,6 @@
 -- The events so far are a legal history, which leads to the machine and owes what is kept beside it, each
 -- process stands at its place, and none of them was out of steps.
-use Rattle.std.proofs.Common.{take}
-use Rattle.kpn_machine.specs.Run.{IsRun}
-use Rattle.kpn_audit.specs.Judged.{ArePlaces, Owes}
-use Rattle.kpn_audit.specs.Audit.{AreWithinSteps}
-use Rattle.kpn_audit.specs.Stored.{history_of}
+use Rattle.kpn_audit.proofs.Common.{take, IsRun, ArePlaces, Owes, AreWithinSteps, history_of}
 use Rattle.kpn_audit.proofs.auditor.replay.Given as goal
 
 abbrev pub invariant-events : goal.invariant-events

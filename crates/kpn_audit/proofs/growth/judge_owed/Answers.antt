@@ -1,11 +1,5 @@
 -- The growth that is owed is made, and nothing else may follow.
-use Rattle.std.proofs.Common.{◌≡◌, None, refl, subst}
-use Rattle.std.proofs.lemmas.Bool.{false≢true}
-use Rattle.kpn_net.specs.Tables.{larger_capacity}
-use Rattle.kpn_step.specs.declared.stop.Stop.TheVariants.{Paused}
-use Rattle.kpn_history.specs.Channels.{capacity_or_zero}
-use Rattle.kpn_history.specs.declared.event.Event.TheVariants.{Grow}
-use Rattle.kpn_audit.specs.Judged.{IsFollowed}
+use Rattle.kpn_audit.proofs.Common.{◌≡◌, None, refl, subst, false≢true, larger_capacity, Paused, capacity_or_zero, Grow, IsFollowed}
 use Rattle.kpn_audit.proofs.Refused.{only_growth}
 use Rattle.kpn_audit.proofs.Followed.{owes_nothing_after, goes_by}
 use Rattle.kpn_audit.proofs.growth.judge_owed.Goals as goal

@@ -1,8 +1,5 @@
 -- After an event that lets something go on nothing is owed; after one that is no wait what is owed for a stop is.
-use Rattle.std.proofs.Common.{◌≡◌, true, [], ◌∷◌, ◌++◌, None, rules}
-use Rattle.kpn_history.specs.Legal.{waiter}
-use Rattle.kpn_history.specs.Stops.{lets_go_on}
-use Rattle.kpn_history.proofs.Growth.{no_cycle_owed_after}
+use Rattle.kpn_audit.proofs.Common.{◌≡◌, true, [], ◌∷◌, ◌++◌, None, rules, waiter, lets_go_on, no_cycle_owed_after}
 use Rattle.kpn_audit.proofs.Followed.{no_waiter, owes_nothing_after, owes_at_stop}
 use Rattle.kpn_audit.proofs.growth.owed_after.Goals as goal
 

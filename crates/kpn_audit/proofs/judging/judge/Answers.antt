@@ -1,6 +1,5 @@
 -- What is owed is judged first.
-use Rattle.std.proofs.Common.{subst}
-use Rattle.kpn_audit.specs.Judged.{Owes}
+use Rattle.kpn_audit.proofs.Common.{subst, Owes}
 use Rattle.kpn_audit.proofs.Followed.{judged_if_made}
 use Rattle.kpn_audit.proofs.judging.judge.Goals as goal
 

@@ -1,6 +1,5 @@
 -- An event that is due is made, and no other may follow.
-use Rattle.std.proofs.lemmas.Bool.{both_ways}
-use Rattle.kpn_machine.proofs.Due.{Legal-due}
+use Rattle.kpn_audit.proofs.Common.{both_ways, Legal-due}
 use Rattle.kpn_machine.proofs.Running.{IsRun-next}
 use Rattle.kpn_audit.proofs.Followed.{goes_by}
 use Rattle.kpn_audit.proofs.Refused.{must_be_due}

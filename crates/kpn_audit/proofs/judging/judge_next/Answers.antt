@@ -1,7 +1,5 @@
 -- The numbers are there, and the event is judged by whom it is of.
-use Rattle.std.proofs.lemmas.Bool.{both_ways}
-use Rattle.std.proofs.lemmas.Result.{IfOk-weaker}
-use Rattle.kpn_history.proofs.AfterEvent.{of_process}
+use Rattle.kpn_audit.proofs.Common.{both_ways, IfOk-weaker, of_process}
 use Rattle.kpn_audit.proofs.Followed.{judged_if_made}
 use Rattle.kpn_audit.proofs.Refused.{has_its_numbers}
 use Rattle.kpn_audit.proofs.judging.judge_next.Goals as goal

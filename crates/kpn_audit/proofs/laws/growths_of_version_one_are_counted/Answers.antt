@@ -1,8 +1,4 @@
-use Rattle.std.proofs.Common.{suc, ◌+◌, [], take, count_by, Some, refl, ap, ◌∙◌, zero-add}
-use Rattle.kpn_history.specs.declared.event.Event.TheVariants.{Grow}
-use Rattle.kpn_history.specs.declared.stored.Version.TheVariants.{One}
-use Rattle.kpn_history.specs.Channels.{is_growth_of}
-use Rattle.kpn_audit.specs.Stored.{audited_under}
+use Rattle.kpn_audit.proofs.Common.{suc, ◌+◌, [], take, count_by, Some, refl, ap, ◌∙◌, zero-add, Grow, One, is_growth_of, audited_under}
 use Rattle.kpn_audit.proofs.VersionOne.{growth_behind}
 use Rattle.kpn_audit.proofs.laws.growths_of_version_one_are_counted.Goals as goal
 

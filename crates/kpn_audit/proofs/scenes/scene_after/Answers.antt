@@ -1,7 +1,5 @@
 -- The growth that is owed is that of the history.
-use Rattle.std.proofs.Common.{subst}
-use Rattle.kpn_audit.specs.Judged.{Owes}
-use Rattle.kpn_audit.specs.Stored.{history_of}
+use Rattle.kpn_audit.proofs.Common.{subst, Owes, history_of}
 use Rattle.kpn_audit.proofs.scenes.scene_after.Goals as goal
 
 pub returns-in-Some-clause-scene : goal.returns-in-Some-clause-scene

@@ -1,11 +1,5 @@
 -- What stands before the event under the rules of the trace stands before it in the trace.
-use Rattle.std.proofs.Common.{pos, ◌<◌, List, length, take, refl, sym, subst}
-use Rattle.std.proofs.lemmas.Result.{IfOk-weaker, IfErr-weaker}
-use Rattle.kpn_history.specs.declared.event.Event.{Event}
-use Rattle.kpn_history.specs.declared.event.Event.TheVariants.{Get}
-use Rattle.kpn_history.specs.declared.stored.Version.TheVariants.{One, Two}
-use Rattle.kpn_audit.specs.Audit.{IsFault}
-use Rattle.kpn_audit.specs.Scene.{IsSceneAt}
+use Rattle.kpn_audit.proofs.Common.{pos, ◌<◌, List, length, take, refl, sym, subst, IfOk-weaker, IfErr-weaker, Event, Get, One, Two, IsFault, IsSceneAt}
 use Rattle.kpn_audit.proofs.Telling.{of_trace}
 use Rattle.kpn_audit.proofs.SceneAt.{scene_at, fault_at}
 use Rattle.kpn_audit.proofs.scenes.scene_before.Goals as goal

@@ -1,6 +1,4 @@
-use Rattle.std.proofs.Common.{◌∙◌, ap, sym, subst}
-use Rattle.kpn_machine.specs.Due.{Stands, stop_of}
-use Rattle.kpn_machine.proofs.Due.{stop_of-fault}
+use Rattle.kpn_audit.proofs.Common.{◌∙◌, ap, sym, subst, Stands, stop_of, stop_of-fault}
 use Rattle.kpn_audit.proofs.seeing.at_stop.Goals as goal
 
 pub returns-in-WantRead : goal.returns-in-WantRead

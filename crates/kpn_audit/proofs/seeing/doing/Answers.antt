@@ -1,7 +1,5 @@
 -- A process that is free makes steps, and is between two of them if it has used them up.
-use Rattle.std.proofs.Common.{subst, rules}
-use Rattle.kpn_machine.specs.Machine.{frame_in, IsFree}
-use Rattle.kpn_machine.specs.Due.{Stands}
+use Rattle.kpn_audit.proofs.Common.{subst, rules, frame_in, IsFree, Stands}
 use Rattle.kpn_audit.proofs.Replaying.{out_of_steps}
 use Rattle.kpn_audit.proofs.seeing.doing.Goals as goal
 

@@ -1,7 +1,5 @@
 -- The port is one of the process, and its channel one of the network.
-use Rattle.std.proofs.Common.{ap, ◌∙◌, arith}
-use Rattle.kpn_chan.specs.Channel.{next_item}
-use Rattle.kpn_machine.proofs.Ports.{in_port, reads_below}
+use Rattle.kpn_audit.proofs.Common.{ap, ◌∙◌, arith, next_item, in_port, reads_below}
 use Rattle.kpn_audit.proofs.Asked.{reads_there}
 use Rattle.kpn_audit.proofs.seeing.reads.Goals as goal
 

@@ -1,7 +1,5 @@
 -- The port is one of the process, and its channel one of the network.
-use Rattle.std.proofs.Common.{ap, ◌∙◌, rules, arith}
-use Rattle.kpn_chan.specs.Channel.{is_channel_full}
-use Rattle.kpn_machine.proofs.Ports.{out_port, writes_below}
+use Rattle.kpn_audit.proofs.Common.{ap, ◌∙◌, rules, arith, is_channel_full, out_port, writes_below}
 use Rattle.kpn_audit.proofs.Asked.{writes_there}
 use Rattle.kpn_audit.proofs.seeing.writes.Goals as goal
 

@@ -1,7 +1,5 @@
 -- A process that has ended or waits makes no event.
-use Rattle.std.proofs.Common.{refl}
-use Rattle.std.proofs.lemmas.Bool.{both_ways}
-use Rattle.kpn_machine.proofs.Exact.{must_be_free}
+use Rattle.kpn_audit.proofs.Common.{refl, both_ways, must_be_free}
 use Rattle.kpn_audit.proofs.stepping.come_to_stop.Goals as goal
 
 pub returns-then-not-is_free-clause-moved : goal.returns-then-not-is_free-clause-moved

@@ -1,10 +1,5 @@
 -- The steps of one call follow those made before.
-use Rattle.std.proofs.Common.{◌≡◌, ◌≢◌, ℕ, ◌+◌, ◌-◌, nat_eq, Bool, true, false, arith, sym, ap, ◌∙◌, subst}
-use Rattle.kpn_net.specs.Tables.{program_of}
-use Rattle.kpn_step.specs.Step.{step_of, Steps}
-use Rattle.kpn_step.proofs.StepCases.{Steps-append}
-use Rattle.kpn_step.specs.Frame.{Frame}
-use Rattle.kpn_machine.specs.Machine.{Machine, frame_in, with_frame}
+use Rattle.kpn_audit.proofs.Common.{◌≡◌, ◌≢◌, ℕ, ◌+◌, ◌-◌, nat_eq, Bool, true, false, arith, sym, ap, ◌∙◌, subst, program_of, step_of, Steps, Steps-append, Frame, Machine, frame_in, with_frame}
 use Rattle.kpn_machine.proofs.Calls.{frame_in-other}
 use Rattle.kpn_audit.proofs.Followed.{stays_free}
 use Rattle.kpn_audit.proofs.InTime.{no_step, stops_within}

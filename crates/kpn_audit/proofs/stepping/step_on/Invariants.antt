@@ -1,10 +1,5 @@
 -- All steps but those that are left were made, and but for the frame nothing has changed.
-use Rattle.std.proofs.Common.{◌≡◌, ◌≢◌, ℕ, ◌≤◌, ◌-◌, List}
-use Rattle.kpn_net.specs.Tables.{program_of}
-use Rattle.kpn_step.specs.Step.{Steps}
-use Rattle.kpn_history.specs.declared.event.Event.{Event}
-use Rattle.kpn_machine.specs.Machine.{frame_in, IsMachine, IsFree}
-use Rattle.kpn_machine.specs.Run.{IsRun}
+use Rattle.kpn_audit.proofs.Common.{◌≡◌, ◌≢◌, ℕ, ◌≤◌, ◌-◌, List, program_of, Steps, Event, frame_in, IsMachine, IsFree, IsRun}
 use Rattle.kpn_audit.proofs.stepping.step_on.Given as goal
 
 abbrev pub invariant-steps : goal.invariant-steps

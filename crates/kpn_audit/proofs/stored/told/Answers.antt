@@ -1,8 +1,5 @@
 -- The capacity of the channel in the machine is that of the history.
-use Rattle.std.proofs.Common.{ap, ◌∙◌}
-use Rattle.kpn_history.specs.declared.event.Event.TheVariants.{Grow}
-use Rattle.kpn_history.specs.Channels.{capacity_after}
-use Rattle.kpn_audit.specs.Stored.{told_capacity}
+use Rattle.kpn_audit.proofs.Common.{ap, ◌∙◌, Grow, capacity_after, told_capacity}
 use Rattle.kpn_audit.proofs.Telling.{has_room, same_capacity}
 use Rattle.kpn_audit.proofs.stored.told.Goals as goal
 

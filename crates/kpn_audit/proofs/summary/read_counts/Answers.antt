@@ -1,6 +1,4 @@
-use Rattle.std.proofs.Common.{[], ◌∷◌, ◌++◌, ap, ◌∙◌}
-use Rattle.kpn_machine.specs.Machine.{channel_in}
-use Rattle.kpn_machine.proofs.Numbered.{one_more}
+use Rattle.kpn_audit.proofs.Common.{[], ◌∷◌, ◌++◌, ap, ◌∙◌, channel_in, one_more}
 use Rattle.kpn_audit.proofs.summary.read_counts.Goals as goal
 
 pub loop-c-preserved : goal.loop-c-preserved

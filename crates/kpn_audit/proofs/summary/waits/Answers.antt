@@ -1,6 +1,4 @@
-use Rattle.std.proofs.Common.{[], ◌∷◌, ◌++◌, ap, ◌∙◌}
-use Rattle.kpn_machine.specs.Machine.{wait_in}
-use Rattle.kpn_machine.proofs.Numbered.{one_more}
+use Rattle.kpn_audit.proofs.Common.{[], ◌∷◌, ◌++◌, ap, ◌∙◌, wait_in, one_more}
 use Rattle.kpn_audit.proofs.summary.waits.Goals as goal
 
 pub loop-p-preserved : goal.loop-p-preserved

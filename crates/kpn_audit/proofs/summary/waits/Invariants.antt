@@ -1,6 +1,4 @@
-use Rattle.std.proofs.Common.{◌≡◌, map}
-use Rattle.std.specs.List.{range_with_len}
-use Rattle.kpn_machine.specs.Machine.{wait_in}
+use Rattle.kpn_audit.proofs.Common.{◌≡◌, map, range_with_len, wait_in}
 use Rattle.kpn_audit.proofs.summary.waits.Given as goal
 
 abbrev pub invariant-loop-p : goal.invariant-loop-p

@@ -1,9 +1,4 @@
-use Rattle.std.proofs.Common.{ℤ, pos, [], ◌∷◌, ◌++◌, map, take, get_or, subst, sym, ap, ◌∙◌, rules, w64, SFits}
-use Rattle.std.proofs.lemmas.Int.{to_z-of_z}
-use Rattle.std.proofs.lemmas.List.{map-append, take_more}
-use Rattle.kpn_history.specs.declared.event.Event.TheVariants.{Feed}
-use Rattle.kpn_book.specs.Appending.{AllHappen}
-use Rattle.kpn_book.specs.Running.{IsSupplied}
+use Rattle.kpn_book.proofs.Common.{ℤ, pos, [], ◌∷◌, ◌++◌, map, take, get_or, subst, sym, ap, ◌∙◌, rules, w64, SFits, to_z-of_z, map-append, take_more, Feed, AllHappen, IsSupplied}
 use Rattle.kpn_book.proofs.Supplying.{IsSupplied-fed}
 use Rattle.kpn_book.proofs.Happening.{happens_alone, join, one}
 use Rattle.kpn_book.proofs.feeding.feed_items.Goals as goal

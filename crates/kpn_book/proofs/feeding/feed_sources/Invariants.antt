@@ -1,10 +1,4 @@
-use Rattle.std.proofs.Common.{◌≡◌, count_by, take}
-use Rattle.std.specs.List.{flat_map, range_with_len}
-use Rattle.kpn_net.specs.Tables.{is_source}
-use Rattle.kpn_net.specs.Iteration.{given_by}
-use Rattle.kpn_book.specs.Appending.{AllHappen}
-use Rattle.kpn_book.specs.RunHere.{supply_of}
-use Rattle.kpn_book.specs.Running.{IsFedBelow}
+use Rattle.kpn_book.proofs.Common.{◌≡◌, count_by, take, flat_map, range_with_len, is_source, given_by, AllHappen, supply_of, IsFedBelow}
 use Rattle.kpn_book.proofs.feeding.feed_sources.Given as goal
 
 abbrev pub invariant-channels : goal.invariant-channels

@@ -1,11 +1,4 @@
-use Rattle.std.proofs.Common.{◌≡◌, ◌<◌, true, [], ◌∷◌, ◌++◌, length, map, get_or, sym, ap, ◌∙◌, subst, arith}
-use Rattle.std.proofs.lemmas.List.{get_or_default}
-use Rattle.kpn_net.specs.Tables.{channel_at, is_source}
-use Rattle.kpn_net.specs.Iteration.{given_by}
-use Rattle.kpn_net.proofs.RoundLemmas.{source_below}
-use Rattle.kpn_history.specs.declared.event.Event.TheVariants.{Feed, Close}
-use Rattle.kpn_book.specs.Appending.{AllHappen}
-use Rattle.kpn_book.specs.Running.{IsSupplied}
+use Rattle.kpn_book.proofs.Common.{◌≡◌, ◌<◌, true, [], ◌∷◌, ◌++◌, length, map, get_or, sym, ap, ◌∙◌, subst, arith, get_or_default, channel_at, is_source, given_by, source_below, Feed, Close, AllHappen, IsSupplied}
 use Rattle.kpn_book.proofs.Supplying.{IsFedBelow-skip, IsFedBelow-more}
 use Rattle.kpn_book.proofs.Happening.{join, one}
 use Rattle.kpn_book.proofs.Turning.{open_after_feeds, supplies_none, supplies_one}

@@ -1,7 +1,4 @@
-use Rattle.std.proofs.Common.{◌≡◌, true, ℕ, ◌-◌, ◌≤◌}
-use Rattle.kpn_book.specs.Outcomes.{IsEnough}
-use Rattle.kpn_book.specs.RunHere.{Turns}
-use Rattle.kpn_book.specs.Running.{IsLeftToItself, IsLater}
+use Rattle.kpn_book.proofs.Common.{◌≡◌, true, ℕ, ◌-◌, ◌≤◌, IsEnough, Turns, IsLeftToItself, IsLater}
 use Rattle.kpn_book.proofs.here.run.Given as goal
 
 abbrev pub invariant-run : goal.invariant-run

@@ -1,9 +1,5 @@
-use Rattle.std.proofs.Common.{◌∙◌, subst, arith}
-use Rattle.std.proofs.lemmas.Result.{IfOk-weaker}
-use Rattle.kpn_net.specs.Faults.{IsNetwork}
-use Rattle.kpn_net.specs.Iteration.{given_by}
+use Rattle.kpn_book.proofs.Common.{◌∙◌, subst, arith, IfOk-weaker, IsNetwork, given_by, supplies}
 use Rattle.kpn_book.proofs.Supplying.{IsFedBelow-first, IsLeftToItself-fed}
-use Rattle.kpn_book.specs.RunHere.{supplies}
 use Rattle.kpn_book.proofs.Remembered.{happen_much}
 use Rattle.kpn_book.proofs.Told.{IsReport-told, AreSupplied-told, IsReportHere-told}
 use Rattle.kpn_book.proofs.here.run_by_order.Goals as goal

@@ -1,5 +1,4 @@
-use Rattle.kpn_history.proofs.Growth.{nothing_can_grow}
-use Rattle.kpn_history.proofs.OwedGrowth.{no_wait_left}
+use Rattle.kpn_book.proofs.Common.{nothing_can_grow, no_wait_left}
 use Rattle.kpn_book.proofs.Standing.{owed_then, told_then}
 use Rattle.kpn_book.proofs.laws.growths.Goals as goal
 

@@ -1,5 +1,4 @@
-use Rattle.std.proofs.Common.{◌≡◌, length, ap, subst, arith}
-use Rattle.kpn_book.specs.Releasing.{IsNoneHeldBelow}
+use Rattle.kpn_book.proofs.Common.{◌≡◌, length, ap, subst, arith, IsNoneHeldBelow}
 use Rattle.kpn_book.proofs.Release.{none_left}
 use Rattle.kpn_book.proofs.releasing.put_back_held.Goals as goal
 

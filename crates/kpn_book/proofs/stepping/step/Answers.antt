@@ -1,5 +1,4 @@
-use Rattle.std.proofs.Common.{sym, subst, IfOk}
-use Rattle.kpn_book.specs.Running.{AreStepped}
+use Rattle.kpn_book.proofs.Common.{sym, subst, IfOk, AreStepped}
 use Rattle.kpn_book.proofs.stepping.step.Goals as goal
 
 pub returns-then-in_order : goal.returns-then-in_order

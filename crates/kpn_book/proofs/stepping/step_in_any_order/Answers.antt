@@ -1,7 +1,4 @@
-use Rattle.std.proofs.Common.{◌≡◌, ◌-◌, ◌<◌, ◌^◌, false, [], ap, subst, arith, inl, rules}
-use Rattle.std.proofs.lemmas.Bool.{false≢true}
-use Rattle.std.proofs.lemmas.Result.{IfOk-weaker}
-use Rattle.kpn_book.specs.GoingOn.{RunsInAnyOrder}
+use Rattle.kpn_book.proofs.Common.{◌≡◌, ◌-◌, ◌<◌, ◌^◌, false, [], ap, subst, arith, inl, rules, false≢true, IfOk-weaker, RunsInAnyOrder}
 use Rattle.kpn_book.proofs.SettledReports.{somebody}
 use Rattle.kpn_book.proofs.AnyOrder.{all_on, puts_last, on_and_take}
 use Rattle.kpn_book.proofs.stepping.step_in_any_order.Goals as goal

@@ -1,6 +1,4 @@
-use Rattle.std.proofs.Common.{◌≡◌, true, ◌-◌, ◌<◌, ◌^◌, [], ap, subst, arith, inl, rules}
-use Rattle.std.proofs.lemmas.Result.{IfOk-weaker}
-use Rattle.kpn_book.specs.InARow.{RunsInRow}
+use Rattle.kpn_book.proofs.Common.{◌≡◌, true, ◌-◌, ◌<◌, ◌^◌, [], ap, subst, arith, inl, rules, IfOk-weaker, RunsInRow}
 use Rattle.kpn_book.proofs.SettledReports.{somebody}
 use Rattle.kpn_book.proofs.InARow.{row_ends, last_to_itself, last_few, last_turn, last_put, row_and_take}
 use Rattle.kpn_book.proofs.stepping.step_in_order.Goals as goal

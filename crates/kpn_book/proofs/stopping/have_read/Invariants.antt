@@ -1,6 +1,4 @@
-use Rattle.std.proofs.Common.{◌≡◌, ℕ, ◌<◌, ◌≤◌, true, length}
-use Rattle.kpn_net.specs.Tables.{channel_at, is_sink}
-use Rattle.kpn_history.specs.Channels.{read_on}
+use Rattle.kpn_book.proofs.Common.{◌≡◌, ℕ, ◌<◌, ◌≤◌, true, length, channel_at, is_sink, read_on}
 use Rattle.kpn_book.proofs.stopping.have_read.Given as goal
 
 abbrev pub invariant-channels : goal.invariant-channels

@@ -1,7 +1,4 @@
-use Rattle.std.proofs.Common.{◌≡◌, length, map, sym, ap, ◌∙◌, arith}
-use Rattle.std.specs.List.{filter, range_with_len}
-use Rattle.kpn_net.specs.Tables.{channel_at, is_sink}
-use Rattle.kpn_book.specs.Running.{first_read}
+use Rattle.kpn_book.proofs.Common.{◌≡◌, length, map, sym, ap, ◌∙◌, arith, filter, range_with_len, channel_at, is_sink, first_read}
 use Rattle.kpn_book.proofs.Parts.{kept_more, kept_same}
 use Rattle.kpn_book.proofs.Told.{journals_there, reads_there, within, reads_of_sinks}
 use Rattle.kpn_book.proofs.telling.read_of_sinks.Goals.{then-is_sink+in_ok-items+in-Ok, else-is_sink}

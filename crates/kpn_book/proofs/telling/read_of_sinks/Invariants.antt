@@ -1,7 +1,4 @@
-use Rattle.std.proofs.Common.{◌≡◌, map}
-use Rattle.std.specs.List.{filter, range_with_len}
-use Rattle.kpn_net.specs.Tables.{channel_at, is_sink}
-use Rattle.kpn_book.specs.Running.{first_read}
+use Rattle.kpn_book.proofs.Common.{◌≡◌, map, filter, range_with_len, channel_at, is_sink, first_read}
 use Rattle.kpn_book.proofs.telling.read_of_sinks.Given as goal
 
 abbrev pub invariant-channels : goal.invariant-channels

@@ -1,6 +1,4 @@
-use Rattle.std.proofs.Common.{◌≡◌, map}
-use Rattle.std.specs.List.{range_with_len}
-use Rattle.kpn_machine.specs.Machine.{channel_in}
+use Rattle.kpn_book.proofs.Common.{◌≡◌, map, range_with_len, channel_in}
 use Rattle.kpn_book.proofs.view.copied_journals.Given as goal
 
 abbrev pub invariant-channels : goal.invariant-channels

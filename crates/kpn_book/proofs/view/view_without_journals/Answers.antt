@@ -1,8 +1,5 @@
-use Rattle.std.proofs.Common.{sym, ◌∙◌, subst, ◌≡◌, map, arith}
-use Rattle.kpn_history.specs.Views.{AreCounts}
-use Rattle.kpn_machine.specs.Machine.{channel_in}
+use Rattle.kpn_book.proofs.Common.{sym, ◌∙◌, subst, ◌≡◌, map, arith, AreCounts, channel_in, range_with_len}
 use Rattle.kpn_machine.proofs.Numbered.{one_more}
-use Rattle.std.specs.List.{range_with_len}
 use Rattle.kpn_book.proofs.view.view_without_journals.Goals.{After-channels}
 use Rattle.kpn_book.proofs.view.view_without_journals.Given as given
 use Rattle.kpn_book.proofs.view.view_without_journals.Goals as goal

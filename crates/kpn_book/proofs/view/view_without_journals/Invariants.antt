@@ -1,7 +1,4 @@
-use Rattle.std.proofs.Common.{◌≡◌, map}
-use Rattle.std.specs.List.{range_with_len}
-use Rattle.kpn_history.specs.Views.{AreCounts}
-use Rattle.kpn_machine.specs.Machine.{channel_in}
+use Rattle.kpn_book.proofs.Common.{◌≡◌, map, range_with_len, AreCounts, channel_in}
 use Rattle.kpn_book.proofs.view.view_without_journals.Given as goal
 
 abbrev pub invariant-channels : goal.invariant-channels

@@ -1,9 +1,4 @@
-use Rattle.std.proofs.Common.{ℤ, pos, get_or, subst, rules, w64, SFits}
-use Rattle.std.proofs.lemmas.Int.{to_z-of_z}
-use Rattle.kpn_history.specs.declared.event.Event.TheVariants.{Feed}
-use Rattle.kpn_book.specs.Appending.{Happens}
-use Rattle.kpn_book.specs.Refusals.{IsOpenSource}
-use Rattle.kpn_book.proofs.Happening.{happens_alone}
+use Rattle.kpn_c.proofs.Common.{ℤ, pos, get_or, subst, rules, w64, SFits, to_z-of_z, Feed, Happens, IsOpenSource, happens_alone}
 use Rattle.kpn_c.proofs.OneMore.{feeds_more, since_first}
 use Rattle.kpn_c.proofs.feeding.feed_each.Goals as goal
 

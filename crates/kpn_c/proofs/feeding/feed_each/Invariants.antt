@@ -1,7 +1,4 @@
-use Rattle.std.proofs.Common.{◌<◌, map, take}
-use Rattle.kpn_history.specs.declared.event.Event.TheVariants.{Feed}
-use Rattle.kpn_book.specs.Appending.{AllHappen}
-use Rattle.kpn_book.specs.Refusals.{IsOpenSource}
+use Rattle.kpn_c.proofs.Common.{◌<◌, map, take, Feed, AllHappen, IsOpenSource}
 use Rattle.kpn_c.proofs.feeding.feed_each.Given as goal
 
 abbrev pub invariant-items : goal.invariant-items

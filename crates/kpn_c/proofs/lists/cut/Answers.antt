@@ -1,9 +1,8 @@
 use Rattle.std.proofs.Common.{◌≡◌, ℕ, ◌+◌, ◌-◌, ◌<◌, ◌≤◌, ℤ, List, [], ◌∷◌, ◌++◌, length, map, take, drop, get_or, slice_index_or, refl, sym, ap, ◌∙◌, arith, length-drop}
 use Rattle.std.proofs.lemmas.Grind.{flat_map-append}
-use Rattle.std.proofs.lemmas.List.{append-nil, map-append, take_more, length-take-le}
+use Rattle.kpn_c.proofs.Common.{append-nil, map-append, take_more, length-take-le, flat_of}
 use Rattle.std.proofs.lemmas.List.Sums.{sum_by_more}
 use Rattle.std.proofs.Math.Seq.{take-add}
-use Rattle.kpn_c.specs.Lists.{flat_of}
 use Rattle.kpn_c.proofs.lists.cut.Goals as goal
 
 -- the next n items

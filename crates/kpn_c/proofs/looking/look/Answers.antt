@@ -1,9 +1,5 @@
 use Rattle.std.proofs.Common.{◌≡◌, ℤ, ◌+◌, ◌<◌, take, set, Some, sym, ◌∙◌, subst, rules, arith, w64, SFits, to_z, of_z}
-use Rattle.std.proofs.lemmas.Int.{to_z-of_z}
-use Rattle.std.proofs.lemmas.List.{length-set}
-use Rattle.kpn_chan.specs.Channel.{item_after}
-use Rattle.kpn_machine.specs.Machine.{channel_in}
-use Rattle.kpn_c.specs.States.{next_items}
+use Rattle.kpn_c.proofs.Common.{to_z-of_z, length-set, item_after, channel_in, next_items}
 use Rattle.kpn_c.proofs.OneMore.{rest_then}
 use Rattle.kpn_c.proofs.Shown.{shown_more, there_is}
 use Rattle.kpn_c.proofs.looking.look.Goals as goal

@@ -1,6 +1,5 @@
 use Rattle.std.proofs.Common.{◌≡◌, ◌≤◌, take, drop, length}
-use Rattle.kpn_machine.specs.Machine.{channel_in}
-use Rattle.kpn_c.specs.States.{next_items}
+use Rattle.kpn_c.proofs.Common.{channel_in, next_items}
 use Rattle.kpn_c.proofs.looking.look.Given as goal
 
 abbrev pub invariant-places : goal.invariant-places

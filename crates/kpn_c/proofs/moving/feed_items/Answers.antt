@@ -1,9 +1,4 @@
-use Rattle.std.proofs.Common.{ℤ, subst, rules, w64, SFits}
-use Rattle.std.proofs.lemmas.Int.{to_z-of_z}
-use Rattle.kpn_history.specs.declared.event.Event.TheVariants.{Feed}
-use Rattle.kpn_book.specs.Appending.{Happens}
-use Rattle.kpn_book.proofs.Happening.{happens_alone}
-use Rattle.kpn_c.specs.Moving.{item_at}
+use Rattle.kpn_c.proofs.Common.{ℤ, subst, rules, w64, SFits, to_z-of_z, Feed, Happens, happens_alone, item_at}
 use Rattle.kpn_c.proofs.OneWanted.{feeds_more}
 use Rattle.kpn_c.proofs.moving.feed_items.Goals as goal
 

@@ -1,6 +1,4 @@
-use Rattle.std.proofs.Common.{map, take}
-use Rattle.kpn_book.specs.Appending.{AllHappen}
-use Rattle.kpn_c.specs.Moving.{feed_of}
+use Rattle.kpn_c.proofs.Common.{map, take, AllHappen, feed_of}
 use Rattle.kpn_c.proofs.moving.feed_items.Given as goal
 
 abbrev pub invariant-items : goal.invariant-items

@@ -1,6 +1,4 @@
-use Rattle.std.proofs.Common.{◌∙◌, refl}
-use Rattle.std.proofs.lemmas.List.{length-set}
-use Rattle.kpn_c.specs.Moving.{no_take}
+use Rattle.kpn_c.proofs.Common.{◌∙◌, refl, length-set, no_take}
 use Rattle.kpn_c.proofs.OneMore.{rest_then}
 use Rattle.kpn_c.proofs.OneWanted.{wanted_more}
 use Rattle.kpn_c.proofs.moving.take_wanted.Goals as goal

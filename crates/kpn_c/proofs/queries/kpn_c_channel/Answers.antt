@@ -1,5 +1,4 @@
-use Rattle.std.proofs.Common.{refl, sym, inl}
-use Rattle.kpn_c.specs.Exports.{FindsChannel}
+use Rattle.kpn_c.proofs.Common.{refl, sym, inl, FindsChannel}
 use Rattle.kpn_c.proofs.Leading.{leads}
 use Rattle.kpn_c.proofs.queries.kpn_c_channel.Goals as goal
 

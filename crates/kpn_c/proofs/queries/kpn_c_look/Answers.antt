@@ -1,6 +1,4 @@
-use Rattle.std.proofs.Common.{refl, subst, inl}
-use Rattle.kpn_c.specs.States.{LooksInto, TellsNext}
-use Rattle.kpn_c.specs.Exports.{Asks}
+use Rattle.kpn_c.proofs.Common.{refl, subst, inl, LooksInto, TellsNext, Asks}
 use Rattle.kpn_c.proofs.Leading.{leads}
 use Rattle.kpn_c.proofs.queries.kpn_c_look.Goals as goal
 

@@ -1,6 +1,5 @@
-use Rattle.std.proofs.Common.{refl, subst, inl}
+use Rattle.kpn_c.proofs.Common.{refl, subst, inl, Asks, TellsChannel}
 use Rattle.kpn_c.specs.Telling.{TellsState}
-use Rattle.kpn_c.specs.Exports.{Asks, TellsChannel}
 use Rattle.kpn_c.proofs.Leading.{leads}
 use Rattle.kpn_c.proofs.queries.kpn_c_tell_channel.Goals as goal
 

@@ -1,6 +1,4 @@
-use Rattle.std.proofs.Common.{sym, ap, ◌∙◌, subst}
-use Rattle.kpn_book.specs.Kept.{IsBook}
-use Rattle.kpn_book.specs.Detached.{book_on}
+use Rattle.kpn_c.proofs.Common.{sym, ap, ◌∙◌, subst, IsBook, book_on}
 use Rattle.kpn_c.proofs.session.attached.Goals as goal
 
 pub attach-requires : goal.attach-requires

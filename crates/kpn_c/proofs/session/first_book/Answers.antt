@@ -1,7 +1,5 @@
-use Rattle.std.proofs.Common.{sym, subst}
-use Rattle.kpn_book.specs.Detached.{book_on}
+use Rattle.kpn_c.proofs.Common.{sym, subst, book_on, keeping_of}
 use Rattle.kpn_book.specs.Remembering.{Remembers}
-use Rattle.kpn_c.specs.Sessions.{keeping_of}
 use Rattle.kpn_c.proofs.session.first_book.Goals as goal
 
 pub returns-clause-kept : goal.returns-clause-kept

@@ -1,7 +1,5 @@
 use Rattle.std.proofs.Common.{◌≡◌, refl, subst, inl, inr}
-use Rattle.std.specs.Prelude.{OnOk, IfErr}
-use Rattle.kpn_book.specs.Refusals.{Closes, RefusesClose}
-use Rattle.kpn_c.specs.Exports.{ClosesSource}
+use Rattle.kpn_c.proofs.Common.{OnOk, IfErr, Closes, RefusesClose, ClosesSource}
 use Rattle.kpn_c.proofs.Leading.{leads}
 use Rattle.kpn_c.proofs.sessions.kpn_c_close_source.Goals as goal
 

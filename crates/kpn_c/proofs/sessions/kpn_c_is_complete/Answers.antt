@@ -1,6 +1,4 @@
-use Rattle.std.proofs.Common.{refl, subst, inl}
-use Rattle.kpn_c.specs.Calls.{TellsCompleteness}
-use Rattle.kpn_c.specs.Exports.{TellsIfComplete}
+use Rattle.kpn_c.proofs.Common.{refl, subst, inl, TellsCompleteness, TellsIfComplete}
 use Rattle.kpn_c.proofs.Leading.{leads}
 use Rattle.kpn_c.proofs.sessions.kpn_c_is_complete.Goals as goal
 

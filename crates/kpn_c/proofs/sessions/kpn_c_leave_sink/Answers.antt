@@ -1,7 +1,5 @@
 use Rattle.std.proofs.Common.{◌≡◌, refl, subst, inl, inr}
-use Rattle.std.specs.Prelude.{OnOk, IfErr}
-use Rattle.kpn_book.specs.Refusals.{Leaves, RefusesLeave}
-use Rattle.kpn_c.specs.Exports.{LeavesSink}
+use Rattle.kpn_c.proofs.Common.{OnOk, IfErr, Leaves, RefusesLeave, LeavesSink}
 use Rattle.kpn_c.proofs.Leading.{leads}
 use Rattle.kpn_c.proofs.sessions.kpn_c_leave_sink.Goals as goal
 

@@ -1,5 +1,4 @@
-use Rattle.std.proofs.Common.{refl}
-use Rattle.kpn_c.specs.Exports.{MovesItems, amounts_of}
+use Rattle.kpn_c.proofs.Common.{refl, MovesItems, amounts_of}
 use Rattle.kpn_c.proofs.Leading.{leads}
 use Rattle.kpn_c.proofs.sessions.kpn_c_move.Goals as goal
 

@@ -1,5 +1,4 @@
-use Rattle.std.proofs.Common.{cond, sym, ap}
-use Rattle.kpn_c.specs.Exports.{StepsProcesses}
+use Rattle.kpn_c.proofs.Common.{cond, sym, ap, StepsProcesses}
 use Rattle.kpn_c.proofs.Leading.{leads}
 use Rattle.kpn_c.proofs.sessions.kpn_c_step.Goals as goal
 

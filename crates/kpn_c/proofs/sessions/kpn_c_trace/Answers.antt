@@ -1,8 +1,7 @@
 -- A session that keeps its trace tells it, or memory ran out.
-use Rattle.std.proofs.Common.{subst, inl, sym, ◌∙◌}
+use Rattle.kpn_c.proofs.Common.{subst, inl, sym, ◌∙◌, Asks, TellsTrace, trace_of}
 use Rattle.std.specs.Prelude.{◌≡◌, IfOk}
 use Rattle.kpn_c.specs.Slices.{PutsToFront}
-use Rattle.kpn_c.specs.Exports.{Asks, TellsTrace, trace_of}
 use Rattle.kpn_c.proofs.Leading.{leads}
 use Rattle.kpn_c.proofs.sessions.kpn_c_trace.Goals as goal
 

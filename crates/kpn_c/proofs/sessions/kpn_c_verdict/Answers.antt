@@ -1,5 +1,4 @@
-use Rattle.std.proofs.Common.{refl}
-use Rattle.kpn_c.specs.Exports.{TellsVerdict}
+use Rattle.kpn_c.proofs.Common.{refl, TellsVerdict}
 use Rattle.kpn_c.proofs.Leading.{leads}
 use Rattle.kpn_c.proofs.sessions.kpn_c_verdict.Goals as goal
 

@@ -1,9 +1,4 @@
-use Rattle.std.proofs.Common.{ℤ, ◌<◌, sym, ◌∙◌, subst, rules, w64, SFits, to_z, of_z}
-use Rattle.std.proofs.lemmas.Int.{to_z-of_z}
-use Rattle.std.proofs.lemmas.List.{length-set}
-use Rattle.kpn_history.specs.declared.event.Event.TheVariants.{Take}
-use Rattle.kpn_book.specs.Appending.{Happens}
-use Rattle.kpn_book.specs.Refusals.{IsOpenSink}
+use Rattle.kpn_c.proofs.Common.{ℤ, ◌<◌, sym, ◌∙◌, subst, rules, w64, SFits, to_z, of_z, to_z-of_z, length-set, Take, Happens, IsOpenSink}
 use Rattle.kpn_c.proofs.OneMore.{takes_more, since_first, rest_then}
 use Rattle.kpn_c.proofs.taking.take_each.Goals as goal
 

@@ -1,7 +1,5 @@
 use Rattle.std.proofs.Common.{◌≡◌, ◌<◌, map, take, drop, length}
-use Rattle.kpn_history.specs.declared.event.Event.TheVariants.{Take}
-use Rattle.kpn_book.specs.Appending.{AllHappen}
-use Rattle.kpn_book.specs.Refusals.{IsOpenSink}
+use Rattle.kpn_c.proofs.Common.{Take, AllHappen, IsOpenSink}
 use Rattle.kpn_c.proofs.taking.take_each.Given as goal
 
 abbrev pub invariant-places : goal.invariant-places

@@ -1,7 +1,5 @@
 use Rattle.std.proofs.Common.{◌≡◌, ◌++◌, ◌-◌, List, ℤ, length, min, take, drop, Some, arith, sym, ap, ◌∙◌, subst, length-drop}
-use Rattle.std.proofs.lemmas.List.{take_all}
-use Rattle.circular_buffer.specs.Buffer.{Buffer, buffer, keep_last}
-use Rattle.kpn_chan.specs.Ring.{MayPass, passed_through}
+use Rattle.kpn_chan.proofs.Common.{take_all, Buffer, buffer, keep_last, MayPass, passed_through}
 use Rattle.kpn_chan.proofs.Places.{passes_through, all_enter}
 use Rattle.kpn_chan.proofs.channel.pass_through.Goals as goal
 

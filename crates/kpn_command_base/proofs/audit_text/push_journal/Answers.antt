@@ -1,8 +1,5 @@
-use Rattle.std.proofs.Common.{◌≡◌, ◌+◌, ℤ, ℕ, List, ◌++◌, length, take, drop, arith, sym, ap, ◌∙◌, length-drop}
+use Rattle.kpn_command_base.proofs.Common.{◌≡◌, ◌+◌, ℤ, ℕ, List, ◌++◌, length, take, drop, arith, sym, ap, ◌∙◌, length-drop, flat_map-append, string_bytes, spaced_items, spaced_item}
 use Rattle.std.proofs.lemmas.List.{append_assoc, drop-drop, length-take, take-append-drop}
-use Rattle.std.proofs.lemmas.Grind.{flat_map-append}
-use Rattle.std.specs.String.{string_bytes}
-use Rattle.kpn_command_base.specs.ListText.{spaced_items, spaced_item}
 use Rattle.kpn_command_base.proofs.audit_text.push_journal.Goals as goal
 
 -- what is written of the items from a place on: of a piece, and of what comes past it

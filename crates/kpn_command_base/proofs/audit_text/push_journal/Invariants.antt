@@ -1,7 +1,5 @@
 -- What is written so far and the items that are still to come are the whole.
-use Rattle.std.proofs.Common.{◌≡◌, ◌≤◌, ◌++◌, ◌-◌, length, drop}
-use Rattle.std.specs.String.{string_bytes}
-use Rattle.kpn_command_base.specs.ListText.{spaced_items}
+use Rattle.kpn_command_base.proofs.Common.{◌≡◌, ◌≤◌, ◌++◌, ◌-◌, length, drop, string_bytes, spaced_items}
 use Rattle.kpn_command_base.proofs.audit_text.push_journal.Given as goal
 
 abbrev pub invariant-pieces : goal.invariant-pieces

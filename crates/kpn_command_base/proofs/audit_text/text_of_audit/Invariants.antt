@@ -1,7 +1,5 @@
 -- What is written so far and the lines that are still to come are the whole text.
-use Rattle.std.proofs.Common.{◌≡◌, ◌++◌, drop}
-use Rattle.std.specs.String.{string_bytes}
-use Rattle.kpn_command_base.specs.ListText.{lines_from}
+use Rattle.kpn_command_base.proofs.Common.{◌≡◌, ◌++◌, drop, string_bytes, lines_from}
 use Rattle.kpn_command_base.specs.AuditText.{channel_line, audit_text}
 use Rattle.kpn_command_base.proofs.audit_text.text_of_audit.Given as goal
 

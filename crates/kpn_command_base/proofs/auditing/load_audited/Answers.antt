@@ -1,6 +1,5 @@
 -- The audit is one of the network that the file spells.
-use Rattle.std.proofs.Common.{subst}
-use Rattle.kpn_net.specs.Tables.{Tables}
+use Rattle.kpn_command_base.proofs.Common.{subst, Tables}
 use Rattle.kpn_command_base.specs.Audited.{IsFinding}
 use Rattle.kpn_command_base.proofs.auditing.load_audited.Goals as goal
 

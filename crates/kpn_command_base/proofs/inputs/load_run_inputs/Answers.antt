@@ -1,15 +1,6 @@
 -- A refusal of a stage is one of the inputs; what holds of the options holds of the words.
-use Rattle.std.proofs.Common.{rules, ◌≡◌, ℕ, List, All, map, IfErr, Ok, sym, ap, ◌∙◌, subst, Bor}
-use Rattle.std.proofs.lemmas.Result.{IfErr-weaker}
-use Rattle.std.proofs.lemmas.List.Elements.{All-map}
+use Rattle.kpn_command_base.proofs.Common.{rules, ◌≡◌, ℕ, List, All, map, IfErr, Ok, sym, ap, ◌∙◌, subst, Bor, IfErr-weaker, All-map, SourceWord, FileOption, NamedEnd, IsRefusalOfDescription, HasEquals, name_in, file_in, sources_named, AreGiven, IsRefusalOfWords, IsRefusalOfNames, IsRefusalOfItems, Sources}
 use Rattle.kpn_net.specs.Iteration.{sources}
-use Rattle.kpn_command_base.specs.declared.refusal.Refusal.TheVariants.{SourceWord}
-use Rattle.kpn_command_base.specs.declared.sources.FileOption.{FileOption}
-use Rattle.kpn_command_base.specs.declared.sources.NamedEnd.{NamedEnd}
-use Rattle.kpn_command_base.specs.Description.{IsRefusalOfDescription}
-use Rattle.kpn_command_base.specs.Sources.{HasEquals, name_in, file_in, sources_named, AreGiven}
-use Rattle.kpn_command_base.specs.SourceRefusals.{IsRefusalOfWords, IsRefusalOfNames, IsRefusalOfItems}
-use Rattle.kpn_command_base.specs.declared.sources.EndKind.TheVariants.{Sources}
 use Rattle.kpn_command_base.proofs.SourceLemmas.{map-map}
 use Rattle.kpn_command_base.proofs.InputLemmas.{words_refused, description_refused, names_refused, sinks_refused, items_refused}
 use Rattle.kpn_command_base.proofs.inputs.load_run_inputs.Goals as goal

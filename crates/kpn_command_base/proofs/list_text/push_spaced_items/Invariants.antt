@@ -1,7 +1,5 @@
 -- What is written so far are the items so far.
-use Rattle.std.proofs.Common.{◌≡◌, ◌++◌, take}
-use Rattle.std.specs.String.{string_bytes}
-use Rattle.kpn_command_base.specs.ListText.{spaced_items}
+use Rattle.kpn_command_base.proofs.Common.{◌≡◌, ◌++◌, take, string_bytes, spaced_items}
 use Rattle.kpn_command_base.proofs.list_text.push_spaced_items.Given as goal
 
 abbrev pub invariant-loop-item : goal.invariant-loop-item

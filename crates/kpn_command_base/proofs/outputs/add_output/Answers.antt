@@ -1,8 +1,5 @@
 -- An output that is apart from the inputs and from those before it joins them.
-use Rattle.std.proofs.Common.{◌≡◌, ◌++◌, ◌∷◌, [], ℕ, List, All, Bor, map, ap, sym, subst, ◌∙◌}
-use Rattle.std.proofs.lemmas.List.{map-append}
-use Rattle.std.proofs.lemmas.List.Elements.{All-map}
-use Rattle.kpn_command_base.specs.Outputs.{AreNamesApart, AreTwoOutputs}
+use Rattle.kpn_command_base.proofs.Common.{◌≡◌, ◌++◌, ◌∷◌, [], ℕ, List, All, Bor, map, ap, sym, subst, ◌∙◌, map-append, All-map, AreNamesApart, AreTwoOutputs}
 use Rattle.kpn_command_base.proofs.Apart.{now, apart_more}
 use Rattle.kpn_command_base.proofs.outputs.add_output.Goals as goal
 

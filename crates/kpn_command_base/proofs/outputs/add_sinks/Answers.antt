@@ -1,11 +1,6 @@
 -- The file of one more sink joins the outputs, or it is refused.
 use Rattle.std.proofs.Common.{rules, ◌++◌, ◌∷◌, [], ℕ, List, IfErr, map, take, get_or, ap, sym, ◌∙◌, append_assoc, arith}
-use Rattle.std.proofs.lemmas.List.{map_more}
-use Rattle.std.proofs.lemmas.Result.{IfErr-weaker}
-use Rattle.kpn_command_base.specs.declared.sources.FileOption.{FileOption}
-use Rattle.kpn_command_base.specs.declared.refusal.Refusal.{Refusal}
-use Rattle.kpn_command_base.specs.declared.refusal.Refusal.TheVariants.{SinkWord}
-use Rattle.kpn_command_base.specs.Outputs.{IsRefusalOfOutput}
+use Rattle.kpn_command_base.proofs.Common.{map_more, IfErr-weaker, FileOption, Refusal, SinkWord, IsRefusalOfOutput}
 use Rattle.kpn_command_base.proofs.Apart.{now, some_refused}
 use Rattle.kpn_command_base.proofs.outputs.add_sinks.Goals as goal
 

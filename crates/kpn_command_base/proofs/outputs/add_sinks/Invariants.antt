@@ -1,6 +1,5 @@
 -- The files of the sinks so far have joined the outputs, which are apart.
-use Rattle.std.proofs.Common.{◌≡◌, ◌++◌, map, take}
-use Rattle.kpn_command_base.specs.Outputs.{AreNamesApart}
+use Rattle.kpn_command_base.proofs.Common.{◌≡◌, ◌++◌, map, take, AreNamesApart}
 use Rattle.kpn_command_base.proofs.outputs.add_sinks.Given as goal
 
 abbrev pub invariant-loop-sink : goal.invariant-loop-sink

@@ -1,6 +1,5 @@
 -- One more word gives no source these items.
-use Rattle.std.proofs.Common.{◌≢◌}
-use Rattle.kpn_command_base.specs.Sources.{HasEquals, file_in}
+use Rattle.kpn_command_base.proofs.Common.{◌≢◌, HasEquals, file_in}
 use Rattle.kpn_command_base.proofs.Apart.{one_more}
 use Rattle.kpn_command_base.proofs.outputs.any_gives_items.Goals as goal
 

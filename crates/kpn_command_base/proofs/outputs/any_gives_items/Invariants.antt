@@ -1,6 +1,5 @@
 -- The words so far give no source the items of the file of this name.
-use Rattle.std.proofs.Common.{◌≢◌, All, take}
-use Rattle.kpn_command_base.specs.Sources.{HasEquals, file_in}
+use Rattle.kpn_command_base.proofs.Common.{◌≢◌, All, take, HasEquals, file_in}
 use Rattle.kpn_command_base.proofs.outputs.any_gives_items.Given as goal
 
 abbrev pub invariant-loop-word : goal.invariant-loop-word

@@ -1,8 +1,5 @@
 -- The trace is refused if it is not apart from the inputs.
-use Rattle.std.proofs.Common.{rules, ◌≡◌, IfErr, Some, map, option_map, ap, sym, ◌∙◌}
-use Rattle.std.proofs.lemmas.Result.{IfErr-weaker}
-use Rattle.kpn_command_base.specs.declared.refusal.Refusal.TheVariants.{TraceWord}
-use Rattle.kpn_command_base.specs.Outputs.{IsRefusalOfOutput}
+use Rattle.kpn_command_base.proofs.Common.{rules, ◌≡◌, IfErr, Some, map, option_map, ap, sym, ◌∙◌, IfErr-weaker, TraceWord, IsRefusalOfOutput}
 use Rattle.kpn_command_base.proofs.Apart.{now, trace_refused}
 use Rattle.kpn_command_base.proofs.outputs.check_trace.Goals as goal
 

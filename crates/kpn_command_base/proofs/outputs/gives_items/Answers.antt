@@ -1,7 +1,5 @@
 -- The file that the word names stands after its first `=`.
-use Rattle.std.proofs.Common.{rules, ◌≡◌, ◌≢◌, subst}
-use Rattle.std.proofs.lemmas.Result.{IfOk-weaker}
-use Rattle.kpn_command_base.specs.Sources.{file_in}
+use Rattle.kpn_command_base.proofs.Common.{rules, ◌≡◌, ◌≢◌, subst, IfOk-weaker, file_in}
 use Rattle.kpn_command_base.proofs.outputs.gives_items.Goals as goal
 
 pub returns-in-Some-clause-apart : goal.returns-in-Some-clause-apart

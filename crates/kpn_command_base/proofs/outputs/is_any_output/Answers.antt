@@ -1,7 +1,5 @@
 -- One more output has another name.
-use Rattle.std.proofs.Common.{All, Bor, List, ℕ, arith, subst}
-use Rattle.std.proofs.lemmas.List.{take_all}
-use Rattle.kpn_command_base.specs.Outputs.{AreTwoOutputs}
+use Rattle.kpn_command_base.proofs.Common.{All, Bor, List, ℕ, arith, subst, take_all, AreTwoOutputs}
 use Rattle.kpn_command_base.proofs.Apart.{one_more}
 use Rattle.kpn_command_base.proofs.outputs.is_any_output.Goals as goal
 

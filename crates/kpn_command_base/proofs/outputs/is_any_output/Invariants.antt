@@ -1,6 +1,5 @@
 -- The earlier outputs so far are not of this name.
-use Rattle.std.proofs.Common.{All, take}
-use Rattle.kpn_command_base.specs.Outputs.{AreTwoOutputs}
+use Rattle.kpn_command_base.proofs.Common.{All, take, AreTwoOutputs}
 use Rattle.kpn_command_base.proofs.outputs.is_any_output.Given as goal
 
 abbrev pub invariant-loop-other : goal.invariant-loop-other

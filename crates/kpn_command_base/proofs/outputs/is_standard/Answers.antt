@@ -1,6 +1,5 @@
 -- One of the three names leads to the file.
-use Rattle.std.proofs.lemmas.Result.{IfOk-weaker}
-use Rattle.std.proofs.Common.{inl, inr}
+use Rattle.kpn_command_base.proofs.Common.{IfOk-weaker, inl, inr}
 use Rattle.kpn_command_base.proofs.outputs.is_standard.Goals as goal
 
 pub returns-then-branch : goal.returns-then-branch

@@ -1,8 +1,5 @@
 -- What the shelf does not take for one file has another name.
-use Rattle.std.proofs.Common.{◌≡◌, ◌≢◌, ℕ, List, All, map, ap, subst}
-use Rattle.std.proofs.lemmas.Result.{IfOk-weaker}
-use Rattle.std.proofs.lemmas.List.Elements.{All-map}
-use Rattle.kpn_command_base.specs.Sources.{HasEquals, file_in}
+use Rattle.kpn_command_base.proofs.Common.{◌≡◌, ◌≢◌, ℕ, List, All, map, ap, subst, IfOk-weaker, All-map, HasEquals, file_in}
 use Rattle.kpn_command_base.proofs.Apart.{now}
 use Rattle.kpn_command_base.proofs.outputs.may_overwrite.Goals as goal
 

@@ -1,13 +1,5 @@
 -- Inputs that can't be loaded refuse the run, and an output that can't be made ready.
-use Rattle.std.proofs.Common.{◌≡◌, ℕ, List, map, length, ap, sym, subst, ◌∙◌}
-use Rattle.std.proofs.lemmas.List.{length-map}
-use Rattle.kpn_command_base.specs.RunRequest.{RunRequest}
-use Rattle.kpn_text.specs.Document.{Document}
-use Rattle.kpn_command_base.specs.declared.sources.NamedEnd.{NamedEnd}
-use Rattle.kpn_command_base.specs.declared.sources.FileOption.{FileOption}
-use Rattle.kpn_command_base.specs.Inputs.{AreInputs, AreNamedSinks, IsRefusalOfRunInputs}
-use Rattle.kpn_command_base.specs.Sources.{name_in, file_in}
-use Rattle.kpn_command_base.specs.Outputs.{AreAllApart, AreSinksNamed, outputs_of, words_of}
+use Rattle.kpn_command_base.proofs.Common.{◌≡◌, ℕ, List, map, length, ap, sym, subst, ◌∙◌, length-map, RunRequest, Document, NamedEnd, FileOption, AreInputs, AreNamedSinks, IsRefusalOfRunInputs, name_in, file_in, AreAllApart, AreSinksNamed, outputs_of, words_of}
 use Rattle.kpn_command_base.proofs.Apart.{now, unloaded, unready}
 use Rattle.kpn_command_base.proofs.outputs.prepare.Goals as goal
 

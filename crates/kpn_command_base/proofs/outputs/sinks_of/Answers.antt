@@ -1,8 +1,5 @@
 -- What holds of the words that are handed on holds of those of the request.
-use Rattle.std.proofs.Common.{◌≡◌, ◌∙◌, ℕ, List, Bor, All, map, refl, ap, sym, subst}
-use Rattle.std.proofs.lemmas.Result.{IfOk-weaker, on_ok_weaker}
-use Rattle.std.proofs.lemmas.List.Elements.{All-map}
-use Rattle.kpn_command_base.specs.Sources.{HasEquals, name_in, file_in}
+use Rattle.kpn_command_base.proofs.Common.{◌≡◌, ◌∙◌, ℕ, List, Bor, All, map, refl, ap, sym, subst, IfOk-weaker, on_ok_weaker, All-map, HasEquals, name_in, file_in}
 use Rattle.kpn_command_base.proofs.SourceLemmas.{map-map}
 use Rattle.kpn_command_base.proofs.Apart.{now}
 use Rattle.kpn_command_base.proofs.outputs.sinks_of.Goals as goal

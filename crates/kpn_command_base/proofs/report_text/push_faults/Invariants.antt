@@ -1,7 +1,5 @@
 -- What is written so far and the lines that are still to come are the whole.
-use Rattle.std.proofs.Common.{◌≡◌, ◌++◌, drop}
-use Rattle.std.specs.String.{string_bytes}
-use Rattle.kpn_command_base.specs.ReportText.{fault_text, state_lines}
+use Rattle.kpn_command_base.proofs.Common.{◌≡◌, ◌++◌, drop, string_bytes, fault_text, state_lines}
 use Rattle.kpn_command_base.proofs.report_text.push_faults.Given as goal
 
 abbrev pub invariant-loop-process : goal.invariant-loop-process

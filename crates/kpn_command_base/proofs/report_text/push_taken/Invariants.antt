@@ -1,7 +1,5 @@
 -- What is written so far and the lines that are still to come are the whole; there are no more sinks than channels.
-use Rattle.std.proofs.Common.{◌≡◌, ◌≤◌, ◌++◌, drop}
-use Rattle.std.specs.String.{string_bytes}
-use Rattle.kpn_command_base.specs.ReportText.{sink_lines}
+use Rattle.kpn_command_base.proofs.Common.{◌≡◌, ◌≤◌, ◌++◌, drop, string_bytes, sink_lines}
 use Rattle.kpn_command_base.proofs.report_text.push_taken.Given as goal
 
 abbrev pub invariant-loop-channel : goal.invariant-loop-channel

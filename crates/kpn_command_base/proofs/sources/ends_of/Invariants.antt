@@ -1,6 +1,5 @@
 -- The names so far are the ends so far, which leave the rest of the names to be checked.
-use Rattle.std.proofs.Common.{◌≡◌, ◌<◌, map, take, drop, All}
-use Rattle.kpn_command_base.specs.Sources.{ends_of, ends_named, with_ends}
+use Rattle.kpn_command_base.proofs.Common.{◌≡◌, ◌<◌, map, take, drop, All, ends_of, ends_named, with_ends}
 use Rattle.kpn_command_base.proofs.sources.ends_of.Given as goal
 
 abbrev pub invariant-loop-option : goal.invariant-loop-option

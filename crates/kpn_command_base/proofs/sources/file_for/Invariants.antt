@@ -1,6 +1,5 @@
 -- The options so far do not name the end.
-use Rattle.std.proofs.Common.{◌≡◌, drop}
-use Rattle.kpn_command_base.specs.Sources.{file_for}
+use Rattle.kpn_command_base.proofs.Common.{◌≡◌, drop, file_for}
 use Rattle.kpn_command_base.proofs.sources.file_for.Given as goal
 
 abbrev pub invariant-loop-end : goal.invariant-loop-end

@@ -1,9 +1,5 @@
 -- One more file is read, or refused.
-use Rattle.std.proofs.Common.{rules, List, ℕ, IfErr, ◌∙◌, arith, get_or, []}
-use Rattle.std.proofs.lemmas.List.{length-set}
-use Rattle.std.proofs.lemmas.Result.{IfErr-weaker}
-use Rattle.kpn_command_base.specs.declared.sources.NamedEnd.{NamedEnd}
-use Rattle.kpn_command_base.specs.SourceRefusals.{IsRefusalOfFile}
+use Rattle.kpn_command_base.proofs.Common.{rules, List, ℕ, IfErr, ◌∙◌, arith, get_or, [], length-set, IfErr-weaker, NamedEnd, IsRefusalOfFile}
 use Rattle.kpn_command_base.proofs.SourceLemmas.{given_more, file_refused}
 use Rattle.kpn_command_base.proofs.sources.lists_of.Goals as goal
 

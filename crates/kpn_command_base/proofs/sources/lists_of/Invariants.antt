@@ -1,6 +1,5 @@
 -- The files so far spell lists, and each of these stands in the place of its source.
-use Rattle.std.proofs.Common.{◌≡◌, length, map, take}
-use Rattle.kpn_command_base.specs.Sources.{AreGiven}
+use Rattle.kpn_command_base.proofs.Common.{◌≡◌, length, map, take, AreGiven}
 use Rattle.kpn_command_base.proofs.sources.lists_of.Given as goal
 
 abbrev pub invariant-loop-end : goal.invariant-loop-end

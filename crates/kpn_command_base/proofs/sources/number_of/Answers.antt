@@ -1,7 +1,5 @@
 -- An end has fewer such ends before it than there are.
-use Rattle.std.proofs.Common.{◌≡◌, ◌<◌, true, length, take, count_by, sym, ap, ◌∙◌, arith}
-use Rattle.kpn_net.specs.Tables.{channel_at}
-use Rattle.kpn_command_base.specs.Sources.{is_end, ends_of}
+use Rattle.kpn_command_base.proofs.Common.{◌≡◌, ◌<◌, true, length, take, count_by, sym, ap, ◌∙◌, arith, channel_at, is_end, ends_of}
 use Rattle.kpn_command_base.proofs.SourceLemmas.{end_below}
 use Rattle.kpn_command_base.proofs.sources.number_of.Goals as goal
 

@@ -1,6 +1,5 @@
 -- The ends so far do not have the name.
-use Rattle.std.proofs.Common.{◌≡◌, take, drop, count_by}
-use Rattle.kpn_command_base.specs.Sources.{is_end, end_number, end_from}
+use Rattle.kpn_command_base.proofs.Common.{◌≡◌, take, drop, count_by, is_end, end_number, end_from}
 use Rattle.kpn_command_base.proofs.sources.number_of.Given as goal
 
 abbrev pub invariant-loop-channel : goal.invariant-loop-channel

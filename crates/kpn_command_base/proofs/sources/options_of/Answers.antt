@@ -1,9 +1,5 @@
 -- One more word has an `=`.
-use Rattle.std.proofs.Common.{All, ◌+◌, ◌<◌, length, get_or, take, Bor, List, ℕ, sym, subst, arith}
-use Rattle.std.proofs.lemmas.Grind.{common_steps}
-use Rattle.std.proofs.lemmas.List.{take_more}
-use Rattle.std.proofs.lemmas.List.Elements.{All-push}
-use Rattle.kpn_command_base.specs.Sources.{HasEquals}
+use Rattle.kpn_command_base.proofs.Common.{All, ◌+◌, ◌<◌, length, get_or, take, Bor, List, ℕ, sym, subst, arith, common_steps, take_more, All-push, HasEquals}
 use Rattle.kpn_command_base.proofs.sources.options_of.Goals as goal
 
 one_more : (words : List (Bor (List ℕ))) (i : ℕ) (word : Bor (List ℕ)) → i < length words

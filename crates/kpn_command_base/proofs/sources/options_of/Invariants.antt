@@ -1,6 +1,5 @@
 -- The options so far are those of the words so far.
-use Rattle.std.proofs.Common.{◌≡◌, All, map, take}
-use Rattle.kpn_command_base.specs.Sources.{HasEquals, name_in, file_in}
+use Rattle.kpn_command_base.proofs.Common.{◌≡◌, All, map, take, HasEquals, name_in, file_in}
 use Rattle.kpn_command_base.proofs.sources.options_of.Given as goal
 
 abbrev pub invariant-loop-word : goal.invariant-loop-word

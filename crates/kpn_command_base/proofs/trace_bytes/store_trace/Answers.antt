@@ -1,8 +1,7 @@
 -- The text is stored under the name, or not.
-use Rattle.std.proofs.Common.{◌∙◌, refl, sym, Ok, Err, subst}
+use Rattle.kpn_command_base.proofs.Common.{◌∙◌, refl, sym, Ok, Err, subst, Refusal}
 use Rattle.kpn_trace.specs.TraceText.{trace_text}
 use Rattle.kpn_history.specs.declared.stored.Version.TheVariants.{Two}
-use Rattle.kpn_command_base.specs.declared.refusal.Refusal.{Refusal}
 use Rattle.kpn_command_base.specs.Stored.{Stores}
 use Rattle.kpn_command_base.proofs.trace_bytes.store_trace.Goals as goal
 

@@ -1,6 +1,5 @@
-use Rattle.std.proofs.Common.{◌≡◌, ◌++◌, codes}
+use Rattle.kpn_command_explain.proofs.Common.{◌≡◌, ◌++◌, codes, channels_cut}
 use Rattle.kpn_command_base.specs.AuditText.{exact_line}
-use Rattle.kpn_command_explain.specs.Cut.{channels_cut}
 use Rattle.kpn_command_explain.proofs.cut.cut_text.Given as goal
 
 abbrev pub invariant-loop-c : goal.invariant-loop-c

@@ -1,6 +1,5 @@
 -- What is written so far and the digits that are still to come are the whole.
-use Rattle.std.proofs.Common.{◌≡◌, ◌++◌, drop}
-use Rattle.kpn_command_explain.specs.Cut.{with_commas}
+use Rattle.kpn_command_explain.proofs.Common.{◌≡◌, ◌++◌, drop, with_commas}
 use Rattle.kpn_command_explain.proofs.cut.with_commas.Given as goal
 
 abbrev pub invariant-loop-k : goal.invariant-loop-k

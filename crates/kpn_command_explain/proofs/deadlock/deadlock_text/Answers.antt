@@ -1,7 +1,5 @@
 -- The text begins by whether there are rings.
-use Rattle.std.proofs.Common.{◌∙◌, Bool, ap, subst}
-use Rattle.kpn_deadlock.specs.Told.{are_some}
-use Rattle.kpn_command_explain.specs.TraceAnswers.{BeginsByRings}
+use Rattle.kpn_command_explain.proofs.Common.{◌∙◌, Bool, ap, subst, are_some, BeginsByRings}
 use Rattle.kpn_command_explain.proofs.deadlock.deadlock_text.Goals as goal
 
 pub returns : goal.returns

@@ -1,9 +1,7 @@
 -- The network is that of the document.
 use Rattle.std.specs.Prelude.{IfOk}
-use Rattle.std.proofs.Common.{List, subst}
+use Rattle.kpn_command_explain.proofs.Common.{List, subst, Tables, AreRings}
 use Rattle.kpn_net.specs.declared.wait.Wait.{Wait}
-use Rattle.kpn_net.specs.Tables.{Tables}
-use Rattle.kpn_deadlock.specs.Told.{AreRings}
 use Rattle.kpn_command_explain.proofs.deadlock.rings_of.Goals as goal
 
 pub returns : goal.returns

@@ -1,6 +1,5 @@
 -- Each arm gives what the command may give.
-use Rattle.std.proofs.Common.{Ok, sym, subst}
-use Rattle.std.proofs.lemmas.Result.{IfOk-weaker, IfErr-weaker}
+use Rattle.kpn_command_explain.proofs.Common.{Ok, sym, subst, IfOk-weaker, IfErr-weaker}
 use Rattle.kpn_command_explain.proofs.Arms.{is_right, is_wrong, no_memory, is_refused}
 use Rattle.kpn_command_explain.proofs.description.explain_command.Goals as goal
 

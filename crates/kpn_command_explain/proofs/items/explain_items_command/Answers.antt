@@ -1,7 +1,5 @@
 -- Each arm gives what the command may give.
-use Rattle.std.proofs.Common.{Ok, sym, subst}
-use Rattle.std.proofs.lemmas.Result.{IfOk-weaker, IfErr-weaker}
-use Rattle.kpn_text_items.specs.ItemFile.{Spells}
+use Rattle.kpn_command_explain.proofs.Common.{Ok, sym, subst, IfOk-weaker, IfErr-weaker, Spells}
 use Rattle.kpn_command_explain.proofs.Arms.{are_right, is_wrong_line, no_memory_for_items}
 use Rattle.kpn_command_explain.proofs.items.explain_items_command.Goals as goal
 

@@ -1,6 +1,5 @@
 -- After no line feed the place is reached.
-use Rattle.std.proofs.Common.{◌≡◌, ℕ, List, [], ◌∷◌, drop, refl, sym, subst, arith, rules}
-use Rattle.kpn_command_explain.specs.Lines.{behind_feeds}
+use Rattle.kpn_command_explain.proofs.Common.{◌≡◌, ℕ, List, [], ◌∷◌, drop, refl, sym, subst, arith, rules, behind_feeds}
 use Rattle.kpn_command_explain.proofs.lines.behind_feeds.Goals as goal
 
 at_once : (text : List ℕ) → behind_feeds 0 text ≡ 0

@@ -1,6 +1,5 @@
 -- The bytes passed and those that remain lead to the same byte as all of them.
-use Rattle.std.proofs.Common.{◌≡◌, ◌+◌, drop}
-use Rattle.kpn_command_explain.specs.Lines.{behind_feeds}
+use Rattle.kpn_command_explain.proofs.Common.{◌≡◌, ◌+◌, drop, behind_feeds}
 use Rattle.kpn_command_explain.proofs.lines.behind_feeds.Given as goal
 
 abbrev pub invariant-loop-at : goal.invariant-loop-at

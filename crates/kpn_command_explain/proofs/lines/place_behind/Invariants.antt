@@ -1,6 +1,5 @@
 -- The bytes that remain lead from here to the same place as all of them.
-use Rattle.std.proofs.Common.{◌≡◌, ◌≤◌, ◌+◌, drop, fold}
-use Rattle.kpn_command_explain.specs.Lines.{place_after_byte, place_behind}
+use Rattle.kpn_command_explain.proofs.Common.{◌≡◌, ◌≤◌, ◌+◌, drop, fold, place_after_byte, place_behind}
 use Rattle.kpn_command_explain.proofs.lines.place_behind.Given as goal
 
 abbrev pub invariant-loop-byte : goal.invariant-loop-byte

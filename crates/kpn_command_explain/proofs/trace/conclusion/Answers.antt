@@ -1,10 +1,6 @@
 -- Each finding has its text under its status.
-use Rattle.std.proofs.Common.{refl, subst}
-use Rattle.kpn_net.specs.Tables.{Tables}
-use Rattle.kpn_command_base.specs.declared.flaw.Flaw.{Flaw}
+use Rattle.kpn_command_explain.proofs.Common.{refl, subst, Tables, Flaw, IsFinding, IsFlaw, ExplainsEvent, legal, budget}
 use Rattle.kpn_command_base.specs.Flaw.{IsFlawTold}
-use Rattle.kpn_command_base.specs.Audited.{IsFinding, IsFlaw}
-use Rattle.kpn_command_explain.specs.TraceAnswers.{ExplainsEvent, legal, budget}
 use Rattle.kpn_command_explain.proofs.Conclusions.{concludes_illegal, event_there, is_illegal}
 use Rattle.kpn_command_explain.proofs.trace.conclusion.Goals as goal
 

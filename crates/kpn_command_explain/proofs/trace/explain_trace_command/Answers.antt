@@ -1,6 +1,5 @@
 -- The one file spells the document, and the other gives the bytes.
-use Rattle.std.proofs.Common.{List, ℕ, Ok, inr, sym, subst}
-use Rattle.std.proofs.lemmas.Result.{IfOk-weaker, IfErr-weaker}
+use Rattle.kpn_command_explain.proofs.Common.{List, ℕ, Ok, inr, sym, subst, IfOk-weaker, IfErr-weaker}
 use Rattle.kpn_command_explain.proofs.Conclusions.{is_refusal}
 use Rattle.kpn_command_explain.proofs.trace.explain_trace_command.Goals as goal
 

@@ -1,6 +1,5 @@
 -- The bytes spell the trace, or are refused.
-use Rattle.std.proofs.lemmas.Result.{IfOk-weaker, IfErr-weaker}
-use Rattle.kpn_command_explain.specs.TraceAnswers.{refused, spelled}
+use Rattle.kpn_command_explain.proofs.Common.{IfOk-weaker, IfErr-weaker, refused, spelled}
 use Rattle.kpn_command_explain.proofs.Conclusions.{no_explanation}
 use Rattle.kpn_command_explain.proofs.trace.explanation.Goals as goal
 

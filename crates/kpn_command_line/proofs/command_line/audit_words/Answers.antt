@@ -1,7 +1,5 @@
 -- One word after the other is added.
-use Rattle.std.proofs.Common.{codes}
-use Rattle.clap.specs.Simple.{new_app}
-use Rattle.kpn_command_line.specs.CommandLine.{file_word, trace_word, steps_option}
+use Rattle.kpn_command_line.proofs.Common.{codes, new_app, file_word, trace_word, steps_option}
 use Rattle.kpn_command_line.proofs.Adding.{word_added}
 use Rattle.kpn_command_line.proofs.command_line.audit_words.Goals as goal
 

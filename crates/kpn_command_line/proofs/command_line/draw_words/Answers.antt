@@ -1,7 +1,5 @@
 -- One word after the other is added.
-use Rattle.std.proofs.Common.{codes}
-use Rattle.clap.specs.Simple.{new_app}
-use Rattle.kpn_command_line.specs.CommandLine.{file_word, across_flag, optional_word}
+use Rattle.kpn_command_line.proofs.Common.{codes, new_app, file_word, across_flag, optional_word}
 use Rattle.kpn_command_line.proofs.Adding.{word_added}
 use Rattle.kpn_command_line.proofs.command_line.draw_words.Goals as goal
 

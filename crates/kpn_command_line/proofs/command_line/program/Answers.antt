@@ -1,7 +1,5 @@
 -- One command after the other is added.
-use Rattle.kpn_command_line.specs.CommandLine.{alone_words, check_words, explain_words, print_words, draw_words}
-use Rattle.kpn_command_line.specs.CommandLine.{rounds_words, run_words, stream_words, audit_words, join_words}
-use Rattle.kpn_command_line.specs.CommandLine.{stats_words, timeline_words, bare_command_line}
+use Rattle.kpn_command_line.proofs.Common.{alone_words, check_words, explain_words, print_words, draw_words, rounds_words, run_words, stream_words, audit_words, join_words, stats_words, timeline_words, bare_command_line}
 use Rattle.kpn_command_line.proofs.command_line.program.Goals as goal
 
 pub returns : goal.returns

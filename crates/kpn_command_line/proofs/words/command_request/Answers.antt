@@ -1,6 +1,5 @@
 -- Words that name no command of the program ask for nothing.
-use Rattle.std.proofs.Common.{rules}
-use Rattle.kpn_command_line.specs.Asked.{IsNoneOf, rows_in}
+use Rattle.kpn_command_line.proofs.Common.{rules, IsNoneOf, rows_in}
 use Rattle.kpn_command_line.proofs.Nothing.{names_known, no_command, usage_if}
 use Rattle.kpn_command_line.proofs.words.command_request.Goals as goal
 

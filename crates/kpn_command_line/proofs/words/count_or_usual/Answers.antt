@@ -1,6 +1,5 @@
 -- Without a count it is the usual one.
-use Rattle.std.proofs.Common.{◌∙◌, ap, sym}
-use Rattle.std.specs.Prelude.{unwrap_or}
+use Rattle.kpn_command_line.proofs.Common.{◌∙◌, ap, sym, unwrap_or}
 use Rattle.kpn_command_line.proofs.words.count_or_usual.Goals as goal
 
 pub returns : goal.returns

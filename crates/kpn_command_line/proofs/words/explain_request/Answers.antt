@@ -1,6 +1,5 @@
 -- Without the flag the words ask for a description or a trace. Items with a trace ask for nothing.
-use Rattle.std.proofs.Common.{◌∙◌, ap, refl, sym, option_map}
-use Rattle.kpn_command_line.specs.Asked.{rows_in}
+use Rattle.kpn_command_line.proofs.Common.{◌∙◌, ap, refl, sym, option_map, rows_in}
 use Rattle.kpn_command_line.proofs.Nothing.{no_items_with_trace, usage_if}
 use Rattle.kpn_command_line.proofs.words.explain_request.Goals as goal
 

@@ -1,6 +1,5 @@
 -- The number that `clap` reads is that of the text that is given.
-use Rattle.std.specs.Str.Parse.{ParsesUnsigned, ExplainsUnsignedError, HasUnsignedDigitsIfOk}
-use Rattle.clap.specs.Matches.{found_of}
+use Rattle.kpn_command_line.proofs.Common.{ParsesUnsigned, ExplainsUnsignedError, HasUnsignedDigitsIfOk, found_of}
 use Rattle.kpn_command_line.proofs.Given.{number_given}
 use Rattle.kpn_command_line.proofs.words.few_of.Goals as goal
 

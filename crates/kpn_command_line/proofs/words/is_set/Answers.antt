@@ -1,7 +1,5 @@
 -- The test compares the text with `true`.
-use Rattle.std.proofs.Common.{◌≡◌, ◌∙◌, Bool, true, false, Some, ap, refl, sym, option_map, codes}
-use Rattle.std.proofs.lemmas.Slice.Eq.{bytes_eq-Decides}
-use Rattle.kpn_command_line.specs.Asked.{is_true}
+use Rattle.kpn_command_line.proofs.Common.{◌≡◌, ◌∙◌, Bool, true, false, Some, ap, refl, sym, option_map, codes, bytes_eq-Decides, is_true}
 use Rattle.kpn_command_line.proofs.Given.{none_of}
 use Rattle.kpn_command_line.proofs.words.is_set.Goals as goal
 

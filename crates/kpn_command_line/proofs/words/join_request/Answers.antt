@@ -1,6 +1,5 @@
 -- The words of parts are in pairs, or the words ask for nothing.
-use Rattle.std.proofs.Common.{rules}
-use Rattle.kpn_command_line.specs.Asked.{rows_in}
+use Rattle.kpn_command_line.proofs.Common.{rules, rows_in}
 use Rattle.kpn_command_line.proofs.Nothing.{no_pairs, usage_if}
 use Rattle.kpn_command_line.proofs.words.join_request.Goals as goal
 

@@ -1,7 +1,6 @@
 -- The answer to the command that the words name is the answer to the words.
-use Rattle.std.proofs.Common.{arith}
+use Rattle.kpn_command_line.proofs.Common.{arith, NamesCommand, rows_in}
 use Rattle.std.proofs.lemmas.Grind.{common_steps}
-use Rattle.kpn_command_line.specs.Asked.{NamesCommand, rows_in}
 use Rattle.kpn_command_line.proofs.Nothing.{answer_to_words}
 use Rattle.kpn_command_line.proofs.words.request_of.Goals as goal
 

@@ -1,6 +1,5 @@
 -- Without a number the words ask for nothing.
-use Rattle.std.proofs.Common.{◌∙◌}
-use Rattle.kpn_command_line.specs.Asked.{rows_in}
+use Rattle.kpn_command_line.proofs.Common.{◌∙◌, rows_in}
 use Rattle.kpn_command_line.proofs.Given.{none_of}
 use Rattle.kpn_command_line.proofs.Nothing.{no_number, usage_if}
 use Rattle.kpn_command_line.proofs.words.rounds_request.Goals as goal

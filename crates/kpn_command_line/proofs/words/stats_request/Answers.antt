@@ -1,6 +1,5 @@
 -- Another word for a table asks for nothing.
-use Rattle.std.proofs.lemmas.Result.{err_from_is_err_and}
-use Rattle.kpn_command_line.specs.Asked.{rows_in}
+use Rattle.kpn_command_line.proofs.Common.{err_from_is_err_and, rows_in}
 use Rattle.kpn_command_line.proofs.Nothing.{no_table, usage_for}
 use Rattle.kpn_command_line.proofs.words.stats_request.Goals as goal
 

@@ -1,8 +1,6 @@
 -- The tables are those that are named, and another text names none.
-use Rattle.std.proofs.Common.{◌≡◌, ◌∙◌, ℕ, List, Option, Some, sym, ap, option_map, codes}
-use Rattle.std.specs.Prelude.{◌≢◌, unwrap_or}
+use Rattle.kpn_command_line.proofs.Common.{◌≡◌, ◌∙◌, ℕ, List, Option, Some, sym, ap, option_map, codes, ◌≢◌, unwrap_or, IsNoTable}
 use Rattle.kpn_command_base.specs.declared.tables.StatsTables.TheVariants.{People, Channels, Processes}
-use Rattle.kpn_command_line.specs.Asked.{IsNoTable}
 use Rattle.kpn_command_line.proofs.Given.{none_of}
 use Rattle.kpn_command_line.proofs.Nothing.{usage_if}
 use Rattle.kpn_command_line.proofs.words.tables_of.Goals as goal

@@ -1,9 +1,5 @@
 -- The texts are those that the words give, and there are none without the option.
-use Rattle.std.proofs.Common.{◌≡◌, ◌∙◌, ℕ, List, [], Option, Some, None, ap, map, option_map, refl, sym}
-use Rattle.std.specs.Prelude.{unwrap_or}
-use Rattle.std.specs.Borrow.{Bor}
-use Rattle.std.proofs.lemmas.Result.{IfOk-weaker}
-use Rattle.clap.specs.Matches.{found_of}
+use Rattle.kpn_command_line.proofs.Common.{◌≡◌, ◌∙◌, ℕ, List, [], Option, Some, None, ap, map, option_map, refl, sym, unwrap_or, Bor, IfOk-weaker, found_of}
 use Rattle.kpn_command_line.proofs.Given.{texts_given}
 use Rattle.kpn_command_line.proofs.words.texts_of.Goals as goal
 

@@ -1,10 +1,7 @@
 -- The network and its stream, or why it is not begun.
 use Rattle.std.proofs.Common.{◌≡◌, ℕ, List, Bor, All, IfErr, map, refl, rules, ap, sym, subst}
-use Rattle.std.proofs.lemmas.List.Elements.{All-map}
-use Rattle.std.proofs.lemmas.Result.{IfOk-weaker, IfErr-weaker}
+use Rattle.kpn_command_stream.proofs.Common.{All-map, IfOk-weaker, IfErr-weaker, SaysFormat, AreWordsRefused, AreWordsRight, OfCommon, by_file, by_formats, by_network, by_words}
 use Rattle.kpn_command_base.specs.Description.{IsDescribed, IsRefusalOfDescription}
-use Rattle.kpn_command_stream.specs.Formats.{SaysFormat}
-use Rattle.kpn_command_stream.specs.Causes.{AreWordsRefused, AreWordsRight, OfCommon, by_file, by_formats, by_network, by_words}
 use Rattle.kpn_command_stream.proofs.Worded.{All-unmap}
 use Rattle.kpn_command_stream.proofs.command.carry_out.Given as given
 use Rattle.kpn_command_stream.proofs.command.carry_out.Goals.{After-load_document}

@@ -1,9 +1,6 @@
 -- The words that were asked are those of the request: the outputs are apart, or a refusal has its cause.
 use Rattle.std.proofs.Common.{IfErr, ap, not, rules, subst}
-use Rattle.std.proofs.lemmas.Result.{IfErr-weaker}
-use Rattle.kpn_command_base.specs.Outputs.{AreAllApart, IsRefusalOfOutputs}
-use Rattle.kpn_command_stream.specs.declared.command.Words.{Words}
-use Rattle.kpn_command_stream.specs.Words.{names_standard}
+use Rattle.kpn_command_stream.proofs.Common.{IfErr-weaker, AreAllApart, IsRefusalOfOutputs, Words, names_standard}
 use Rattle.kpn_command_stream.proofs.Listing.{asked_are, words_kept}
 use Rattle.kpn_command_stream.proofs.Refusing.{are_taken, output_word}
 use Rattle.kpn_command_stream.proofs.command.check_words.Goals as goal

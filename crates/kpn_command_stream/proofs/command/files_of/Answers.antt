@@ -1,6 +1,5 @@
 -- One word more is kept, or names standard input.
-use Rattle.std.proofs.Common.{◌∙◌, not, sym, ap}
-use Rattle.kpn_command_stream.specs.Words.{names_standard}
+use Rattle.kpn_command_stream.proofs.Common.{◌∙◌, not, sym, ap, names_standard}
 use Rattle.kpn_command_stream.proofs.Listing.{filter_kept, filter_left}
 use Rattle.kpn_command_stream.proofs.command.files_of.Goals.{then-not-is_standard+in_ok-push, else-not-is_standard}
 use Rattle.kpn_command_stream.proofs.command.files_of.Goals as goal

@@ -1,7 +1,5 @@
 -- The words so far that name no standard input.
-use Rattle.std.proofs.Common.{◌≡◌, not, take}
-use Rattle.std.specs.List.{filter}
-use Rattle.kpn_command_stream.specs.Words.{names_standard}
+use Rattle.kpn_command_stream.proofs.Common.{◌≡◌, not, take, filter, names_standard}
 use Rattle.kpn_command_stream.proofs.command.files_of.Given as goal
 
 abbrev pub invariant-loop-word : goal.invariant-loop-word

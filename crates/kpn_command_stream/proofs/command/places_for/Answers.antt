@@ -1,10 +1,6 @@
 -- The places of the ends, or why there are none.
 use Rattle.std.proofs.Common.{◌≡◌, ◌∙◌, ℕ, List, Bor, IfErr, map, rules, ap, sym, subst}
-use Rattle.std.proofs.lemmas.Result.{IfErr-weaker}
-use Rattle.kpn_command_base.specs.declared.sources.EndKind.TheVariants.{Sources, Sinks}
-use Rattle.kpn_command_stream.specs.Causes.{AreSinkPlaces, AreSourcePlaces, IsUnplaced}
-use Rattle.kpn_command_stream.specs.Command.{end_words_in}
-use Rattle.kpn_command_stream.specs.Formats.{AreForEnds}
+use Rattle.kpn_command_stream.proofs.Common.{IfErr-weaker, Sources, Sinks, AreSinkPlaces, AreSourcePlaces, IsUnplaced, end_words_in, AreForEnds}
 use Rattle.kpn_command_stream.proofs.Refusing.{no_sinks, no_sources}
 use Rattle.kpn_command_stream.proofs.Worded.{for_ends}
 use Rattle.kpn_command_stream.proofs.command.places_for.Goals as goal

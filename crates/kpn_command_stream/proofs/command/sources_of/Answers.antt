@@ -1,9 +1,6 @@
 -- What holds of the words that are handed on holds of those of the request.
-use Rattle.std.proofs.Common.{◌≡◌, ◌∙◌, ℕ, List, Bor, map, ap, sym}
-use Rattle.std.proofs.lemmas.Result.{IfOk-weaker}
-use Rattle.kpn_command_base.specs.Sources.{name_in, file_in}
+use Rattle.kpn_command_stream.proofs.Common.{◌≡◌, ◌∙◌, ℕ, List, Bor, map, ap, sym, IfOk-weaker, name_in, file_in, now}
 use Rattle.kpn_command_base.proofs.SourceLemmas.{map-map}
-use Rattle.kpn_command_base.proofs.Apart.{now}
 use Rattle.kpn_command_stream.proofs.command.sources_of.Goals as goal
 
 -- a part of each word

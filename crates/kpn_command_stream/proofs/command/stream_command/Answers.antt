@@ -1,8 +1,5 @@
 -- A stream, or a refusal that is reported.
-use Rattle.std.proofs.Common.{[], ◌∷◌, ◌++◌, subst}
-use Rattle.kpn_command_base.specs.Told.{IsLineTold}
-use Rattle.kpn_command_stream.specs.Refusal.{refusal_text}
-use Rattle.kpn_command_stream.specs.Command.{streamed, refused}
+use Rattle.kpn_command_stream.proofs.Common.{[], ◌∷◌, ◌++◌, subst, IsLineTold, refusal_text, streamed, refused}
 use Rattle.kpn_command_stream.proofs.command.stream_command.Goals as goal
 
 pub returns-in-Ok : goal.returns-in-Ok

@@ -1,11 +1,7 @@
 -- The places, the run between them, and the end.
 use Rattle.std.proofs.Common.{List, IfErr, rules, subst}
-use Rattle.std.proofs.lemmas.Result.{IfErr-weaker}
-use Rattle.kpn_command_stream.specs.Causes.{AreSinkPlaces, AreSourcePlaces, EndWords, IsDeviceRefusal, IsUnstreamed, OfCommon, end_words_of}
-use Rattle.kpn_command_stream.specs.Command.{end_words_in}
+use Rattle.kpn_command_stream.proofs.Common.{IfErr-weaker, AreSinkPlaces, AreSourcePlaces, EndWords, IsDeviceRefusal, IsUnstreamed, OfCommon, end_words_of, end_words_in, IsStreamConcluded, Lost}
 use Rattle.kpn_command_stream.proofs.Refusing.{no_device}
-use Rattle.kpn_command_stream.specs.Command.{IsStreamConcluded}
-use Rattle.kpn_command_stream.specs.declared.running.Lost.{Lost}
 use Rattle.kpn_command_stream.proofs.command.stream_document.Goals as goal
 
 pub returns-clause-streamed : goal.returns-clause-streamed

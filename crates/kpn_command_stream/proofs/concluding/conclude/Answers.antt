@@ -1,8 +1,7 @@
 -- What the stream has come to, and what is told of it.
 use Rattle.std.proofs.Common.{Bool, subst, ap, rules}
-use Rattle.kpn_book.specs.declared.outcome.Limits.{Limits}
+use Rattle.kpn_command_stream.proofs.Common.{Limits, with_end, without_end}
 use Rattle.kpn_command_stream.specs.Ending.{IsOver}
-use Rattle.kpn_command_stream.specs.Command.{with_end, without_end}
 use Rattle.kpn_command_stream.proofs.concluding.conclude.Goals as goal
 
 pub returns-in-Ok : goal.returns-in-Ok

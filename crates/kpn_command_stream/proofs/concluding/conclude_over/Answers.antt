@@ -1,7 +1,5 @@
 -- What is told, the trace and the status.
-use Rattle.std.proofs.Common.{◌∙◌, subst, rules}
-use Rattle.kpn_net.specs.Tables.{Tables}
-use Rattle.kpn_command_stream.specs.Command.{IsTraceKept, summary_with}
+use Rattle.kpn_command_stream.proofs.Common.{◌∙◌, subst, rules, Tables, IsTraceKept, summary_with}
 use Rattle.kpn_command_stream.proofs.Ended.{is_true, made_told, none_lost, nothing_failed}
 use Rattle.kpn_command_stream.proofs.concluding.conclude_over.Goals as goal
 

@@ -1,6 +1,5 @@
 -- What is told of the sinks so far, if no output has failed.
-use Rattle.std.proofs.Common.{◌≡◌, [], None, take}
-use Rattle.kpn_command_stream.specs.Refusal.{ending_fault}
+use Rattle.kpn_command_stream.proofs.Common.{◌≡◌, [], None, take, ending_fault}
 use Rattle.kpn_command_stream.proofs.concluding.ends_told.Given as goal
 
 abbrev pub invariant-loop-end : goal.invariant-loop-end

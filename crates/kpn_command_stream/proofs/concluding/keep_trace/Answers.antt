@@ -1,6 +1,5 @@
 -- The trace is stored under the name that was asked for.
-use Rattle.std.proofs.Common.{◌≡◌, ◌∙◌, ℕ, List, Option, Some, option_map, sym, ap, subst}
-use Rattle.kpn_command_stream.specs.Command.{IsTraceKept}
+use Rattle.kpn_command_stream.proofs.Common.{◌≡◌, ◌∙◌, ℕ, List, Option, Some, option_map, sym, ap, subst, IsTraceKept}
 use Rattle.kpn_command_stream.proofs.concluding.keep_trace.Goals as goal
 
 pub returns : goal.returns

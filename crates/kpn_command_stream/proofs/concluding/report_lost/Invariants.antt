@@ -1,6 +1,5 @@
 -- The first fault so far, and else the first of those to come. Nothing is told before it.
-use Rattle.std.proofs.Common.{◌≡◌, None, drop}
-use Rattle.kpn_command_stream.specs.Refusal.{first_status, lost_fault}
+use Rattle.kpn_command_stream.proofs.Common.{◌≡◌, None, drop, first_status, lost_fault}
 use Rattle.kpn_command_stream.proofs.concluding.report_lost.Given as goal
 
 abbrev pub invariant-loop-one : goal.invariant-loop-one

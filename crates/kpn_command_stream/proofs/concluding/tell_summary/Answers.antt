@@ -1,7 +1,6 @@
 -- The summary that was made is told.
 use Rattle.std.proofs.Common.{◌≡◌, Bool, false, rules, sym, subst}
-use Rattle.std.specs.String.{string_bytes}
-use Rattle.kpn_command_stream.specs.Command.{IsSummaryMade, summary_with}
+use Rattle.kpn_command_stream.proofs.Common.{string_bytes, IsSummaryMade, summary_with}
 use Rattle.kpn_command_stream.proofs.Ended.{text_told}
 use Rattle.kpn_command_stream.proofs.concluding.tell_summary.Goals as goal
 

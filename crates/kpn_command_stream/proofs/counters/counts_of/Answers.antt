@@ -1,6 +1,5 @@
 -- One channel more.
-use Rattle.std.proofs.Common.{rules, ℕ, sym, subst}
-use Rattle.kpn_command_stream.specs.Counters.{AreCounted, IsCounted}
+use Rattle.kpn_command_stream.proofs.Common.{rules, ℕ, sym, subst, AreCounted, IsCounted}
 use Rattle.kpn_command_stream.proofs.Counted.{counted_more}
 use Rattle.kpn_command_stream.proofs.counters.counts_of.Goals as goal
 

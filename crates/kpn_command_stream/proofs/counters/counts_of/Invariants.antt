@@ -1,6 +1,5 @@
 -- The channels so far.
-use Rattle.std.proofs.Common.{◌≡◌, length}
-use Rattle.kpn_command_stream.specs.Counters.{AreCounted}
+use Rattle.kpn_command_stream.proofs.Common.{◌≡◌, length, AreCounted}
 use Rattle.kpn_command_stream.proofs.counters.counts_of.Given as goal
 
 abbrev pub invariant-loop-c : goal.invariant-loop-c

@@ -1,6 +1,5 @@
 -- One file more holds nothing.
-use Rattle.std.proofs.Common.{◌≡◌, ◌<◌, length, get_or, subst, rules}
-use Rattle.kpn_command_stream.specs.Command.{IsEmptied, IsOutputFor}
+use Rattle.kpn_command_stream.proofs.Common.{◌≡◌, ◌<◌, length, get_or, subst, rules, IsEmptied, IsOutputFor}
 use Rattle.kpn_command_stream.proofs.Listing.{zipped_set, all_more, still_for}
 use Rattle.kpn_command_stream.proofs.devices.empty_outputs.Goals as goal
 

@@ -1,6 +1,5 @@
 -- All outputs stay open, and the files of the first ones hold nothing.
-use Rattle.std.proofs.Common.{All, take}
-use Rattle.kpn_command_stream.specs.Command.{IsEmptied, StayOutputs}
+use Rattle.kpn_command_stream.proofs.Common.{All, take, IsEmptied, StayOutputs}
 use Rattle.kpn_command_stream.proofs.devices.empty_outputs.Given as goal
 
 abbrev pub invariant-loop-i : goal.invariant-loop-i

@@ -1,7 +1,5 @@
 -- One input more.
-use Rattle.std.proofs.Common.{◌<◌, ◌+◌, length, take, sym, subst, rules}
-use Rattle.std.specs.List.{AllZip}
-use Rattle.kpn_command_stream.specs.Command.{IsInputFor}
+use Rattle.kpn_command_stream.proofs.Common.{◌<◌, ◌+◌, length, take, sym, subst, rules, AllZip, IsInputFor}
 use Rattle.kpn_command_stream.proofs.Listing.{zipped_more}
 use Rattle.kpn_command_stream.proofs.devices.open_inputs.Goals as goal
 

@@ -1,7 +1,5 @@
 -- The inputs so far.
-use Rattle.std.proofs.Common.{take}
-use Rattle.std.specs.List.{AllZip}
-use Rattle.kpn_command_stream.specs.Command.{IsInputFor}
+use Rattle.kpn_command_stream.proofs.Common.{take, AllZip, IsInputFor}
 use Rattle.kpn_command_stream.proofs.devices.open_inputs.Given as goal
 
 abbrev pub invariant-loop-i : goal.invariant-loop-i

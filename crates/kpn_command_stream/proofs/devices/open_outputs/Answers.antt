@@ -1,7 +1,5 @@
 -- One output more.
-use Rattle.std.proofs.Common.{◌<◌, ◌+◌, length, take, sym, subst, rules}
-use Rattle.std.specs.List.{AllZip}
-use Rattle.kpn_command_stream.specs.Command.{IsOutputFor}
+use Rattle.kpn_command_stream.proofs.Common.{◌<◌, ◌+◌, length, take, sym, subst, rules, AllZip, IsOutputFor}
 use Rattle.kpn_command_stream.proofs.Listing.{zipped_more}
 use Rattle.kpn_command_stream.proofs.devices.open_outputs.Goals as goal
 

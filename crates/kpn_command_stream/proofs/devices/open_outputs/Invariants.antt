@@ -1,7 +1,5 @@
 -- The outputs so far.
-use Rattle.std.proofs.Common.{take}
-use Rattle.std.specs.List.{AllZip}
-use Rattle.kpn_command_stream.specs.Command.{IsOutputFor}
+use Rattle.kpn_command_stream.proofs.Common.{take, AllZip, IsOutputFor}
 use Rattle.kpn_command_stream.proofs.devices.open_outputs.Given as goal
 
 abbrev pub invariant-loop-i : goal.invariant-loop-i

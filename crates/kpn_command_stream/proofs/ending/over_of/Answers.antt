@@ -1,5 +1,4 @@
-use Rattle.std.proofs.Common.{sym, subst}
-use Rattle.kpn_deadlock.specs.Among.{AreStatesOf}
+use Rattle.kpn_command_stream.proofs.Common.{sym, subst, AreStatesOf}
 use Rattle.kpn_command_stream.proofs.Ringed.{ringed}
 use Rattle.kpn_command_stream.proofs.ending.over_of.Goals as goal
 

@@ -1,9 +1,7 @@
 -- One more word is for an end, and for another than those before it.
-use Rattle.std.proofs.Common.{◌≢◌, List, Bor, ℕ, All, subst, arith}
-use Rattle.std.specs.List.{AllPairs}
+use Rattle.kpn_command_stream.proofs.Common.{◌≢◌, List, Bor, ℕ, All, subst, arith, AllPairs, IsForEnd, format_end}
 use Rattle.std.proofs.lemmas.List.{take_all}
 use Rattle.kpn_command_base.proofs.Apart.{one_more}
-use Rattle.kpn_command_stream.specs.Formats.{IsForEnd, format_end}
 use Rattle.kpn_command_stream.proofs.Worded.{All-unmap, pair_more, pairs_first, pairs_unmap}
 use Rattle.kpn_command_stream.proofs.formats.are_for_ends.Goals as goal
 

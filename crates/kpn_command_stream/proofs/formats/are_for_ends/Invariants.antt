@@ -1,7 +1,5 @@
 -- The words so far are for ends, each for others.
-use Rattle.std.proofs.Common.{◌≢◌, All, take}
-use Rattle.std.specs.List.{AllPairs}
-use Rattle.kpn_command_stream.specs.Formats.{IsForEnd, format_end}
+use Rattle.kpn_command_stream.proofs.Common.{◌≢◌, All, take, AllPairs, IsForEnd, format_end}
 use Rattle.kpn_command_stream.proofs.formats.are_for_ends.Given as goal
 
 abbrev pub invariant-loop-i : goal.invariant-loop-i

@@ -1,8 +1,7 @@
 -- One more word says a format.
-use Rattle.std.proofs.Common.{List, Bor, ℕ, All, subst, arith}
+use Rattle.kpn_command_stream.proofs.Common.{List, Bor, ℕ, All, subst, arith, SaysFormat}
 use Rattle.std.proofs.lemmas.List.{take_all}
 use Rattle.kpn_command_base.proofs.Apart.{one_more}
-use Rattle.kpn_command_stream.specs.Formats.{SaysFormat}
 use Rattle.kpn_command_stream.proofs.formats.are_formats.Goals as goal
 
 pub loop-word-preserved : goal.loop-word-preserved

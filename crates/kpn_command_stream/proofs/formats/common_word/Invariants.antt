@@ -1,6 +1,5 @@
 -- The words so far are each for one end.
-use Rattle.std.proofs.Common.{◌≡◌, drop, map}
-use Rattle.kpn_command_stream.specs.Formats.{first_that, common_format}
+use Rattle.kpn_command_stream.proofs.Common.{◌≡◌, drop, map, first_that, common_format}
 use Rattle.kpn_command_stream.proofs.formats.common_word.Given as goal
 
 abbrev pub invariant-loop-word : goal.invariant-loop-word

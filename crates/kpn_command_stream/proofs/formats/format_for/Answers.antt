@@ -1,7 +1,6 @@
 -- The word for the end names the format.
-use Rattle.std.proofs.Common.{List, ℕ, subst}
+use Rattle.kpn_command_stream.proofs.Common.{List, ℕ, subst, IsNoFormat, NamesFormat}
 use Rattle.std.specs.Prelude.{MatchOption}
-use Rattle.kpn_stream_devices.specs.Formats.{IsNoFormat, NamesFormat}
 use Rattle.kpn_command_stream.proofs.formats.format_for.Goals as goal
 
 pub returns : goal.returns

@@ -1,8 +1,6 @@
 -- A word that names no format says none.
 use Rattle.std.proofs.Common.{◌≡◌, ℕ, List, Option, Some, None, false, is_some, MatchOption, rules, subst}
-use Rattle.kpn_stream_devices.specs.declared.formats.ItemFormat.{ItemFormat}
-use Rattle.kpn_stream_devices.specs.Formats.{IsNoFormat, NamesFormat}
-use Rattle.kpn_command_stream.specs.Formats.{format_in}
+use Rattle.kpn_command_stream.proofs.Common.{ItemFormat, IsNoFormat, NamesFormat, format_in}
 use Rattle.kpn_command_stream.proofs.formats.is_format.Goals as goal
 
 unnamed : (found : Option ItemFormat) (word : List ℕ) → MatchOption found (IsNoFormat word) (NamesFormat word)

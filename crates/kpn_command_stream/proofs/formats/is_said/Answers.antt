@@ -1,8 +1,7 @@
 -- One more word is for other ends.
-use Rattle.std.proofs.Common.{◌≢◌, List, Bor, ℕ, All, subst, arith}
+use Rattle.kpn_command_stream.proofs.Common.{◌≢◌, List, Bor, ℕ, All, subst, arith, format_end}
 use Rattle.std.proofs.lemmas.List.{take_all}
 use Rattle.kpn_command_base.proofs.Apart.{one_more}
-use Rattle.kpn_command_stream.specs.Formats.{format_end}
 use Rattle.kpn_command_stream.proofs.formats.is_said.Goals as goal
 
 pub loop-before-preserved : goal.loop-before-preserved

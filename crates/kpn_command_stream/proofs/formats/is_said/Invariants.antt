@@ -1,6 +1,5 @@
 -- The words so far are for other ends.
-use Rattle.std.proofs.Common.{◌≢◌, All, take}
-use Rattle.kpn_command_stream.specs.Formats.{format_end}
+use Rattle.kpn_command_stream.proofs.Common.{◌≢◌, All, take, format_end}
 use Rattle.kpn_command_stream.proofs.formats.is_said.Given as goal
 
 abbrev pub invariant-loop-before : goal.invariant-loop-before

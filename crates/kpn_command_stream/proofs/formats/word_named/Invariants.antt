@@ -1,6 +1,5 @@
 -- The words so far do not name the end.
-use Rattle.std.proofs.Common.{◌≡◌, drop, map}
-use Rattle.kpn_command_stream.specs.Formats.{first_that, named_format}
+use Rattle.kpn_command_stream.proofs.Common.{◌≡◌, drop, map, first_that, named_format}
 use Rattle.kpn_command_stream.proofs.formats.word_named.Given as goal
 
 abbrev pub invariant-loop-word : goal.invariant-loop-word

@@ -1,6 +1,5 @@
 -- The first places have other inputs.
-use Rattle.std.proofs.Common.{All, take}
-use Rattle.kpn_command_stream.specs.declared.places.EndPlace.{EndPlace}
+use Rattle.kpn_command_stream.proofs.Common.{All, take, EndPlace}
 use Rattle.kpn_command_stream.proofs.places.has_input.Given as goal
 
 abbrev pub invariant-loop-place : goal.invariant-loop-place

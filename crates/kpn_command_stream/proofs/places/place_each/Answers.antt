@@ -1,9 +1,5 @@
 -- One more place.
-use Rattle.std.proofs.Common.{◌+◌, ◌∙◌, ℕ, List, Bor, map, option_map, refl, sym, ap, subst}
-use Rattle.kpn_stream_devices.specs.Formats.{NamesFormat}
-use Rattle.kpn_command_stream.specs.Formats.{format_word}
-use Rattle.kpn_command_stream.specs.EndPlaces.{ArePlaced}
-use Rattle.kpn_command_stream.specs.declared.places.EndPlace.{EndPlace}
+use Rattle.kpn_command_stream.proofs.Common.{◌+◌, ◌∙◌, ℕ, List, Bor, map, option_map, refl, sym, ap, subst, NamesFormat, format_word, ArePlaced, EndPlace}
 use Rattle.kpn_command_stream.proofs.Refusing.{unnamed}
 use Rattle.kpn_command_stream.proofs.Worded.{placed_more, says_none}
 use Rattle.kpn_command_stream.proofs.places.place_each.Goals as goal

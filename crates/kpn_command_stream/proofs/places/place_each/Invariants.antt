@@ -1,6 +1,5 @@
 -- The places so far.
-use Rattle.std.proofs.Common.{map}
-use Rattle.kpn_command_stream.specs.EndPlaces.{ArePlaced}
+use Rattle.kpn_command_stream.proofs.Common.{map, ArePlaced}
 use Rattle.kpn_command_stream.proofs.places.place_each.Given as goal
 
 abbrev pub invariant-loop-number : goal.invariant-loop-number

@@ -1,10 +1,6 @@
 -- The ends are those of the network.
 use Rattle.std.proofs.Common.{◌∙◌, ℕ, List, IfErr, map, ap, sym, subst}
-use Rattle.kpn_net.specs.Tables.{is_source, is_sink}
-use Rattle.kpn_command_base.specs.declared.sources.EndKind.{EndKind}
-use Rattle.kpn_command_base.specs.Sources.{is_end}
-use Rattle.kpn_stream.specs.Ending.{end_numbers}
-use Rattle.kpn_command_stream.specs.Causes.{IsUnplacedBy}
+use Rattle.kpn_command_stream.proofs.Common.{is_source, is_sink, EndKind, is_end, end_numbers, IsUnplacedBy}
 use Rattle.kpn_command_stream.proofs.places.places_by.Goals as goal
 
 pub returns-in-Sources-clause-cause : goal.returns-in-Sources-clause-cause

@@ -1,12 +1,6 @@
 -- The places of all ends by what the options name.
-use Rattle.std.proofs.Common.{List, map, subst}
+use Rattle.kpn_command_stream.proofs.Common.{List, map, subst, IfOk-weaker, IfErr-weaker, NamedEnd, is_end, end_numbers, IsUnplacedBy, AllPlaced}
 use Rattle.std.specs.Prelude.{IfErr}
-use Rattle.std.proofs.lemmas.Result.{IfOk-weaker, IfErr-weaker}
-use Rattle.kpn_command_base.specs.declared.sources.NamedEnd.{NamedEnd}
-use Rattle.kpn_command_base.specs.Sources.{is_end}
-use Rattle.kpn_stream.specs.Ending.{end_numbers}
-use Rattle.kpn_command_stream.specs.Causes.{IsUnplacedBy}
-use Rattle.kpn_command_stream.specs.EndPlaces.{AllPlaced}
 use Rattle.kpn_command_stream.proofs.Listing.{all_placed}
 use Rattle.kpn_command_stream.proofs.Refusing.{unplaced}
 use Rattle.kpn_command_stream.proofs.places.places_of.Goals as goal

@@ -1,6 +1,5 @@
 -- The first places have inputs of their own.
-use Rattle.std.proofs.Common.{take}
-use Rattle.kpn_command_stream.specs.EndPlaces.{HaveOwnInputs}
+use Rattle.kpn_command_stream.proofs.Common.{take, HaveOwnInputs}
 use Rattle.kpn_command_stream.proofs.places.share_an_input.Given as goal
 
 abbrev pub invariant-loop-i : goal.invariant-loop-i

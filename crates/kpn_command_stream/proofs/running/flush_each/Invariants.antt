@@ -1,6 +1,5 @@
 -- The first sinks were told to hand on what they kept, and for each there was room to list what it lost.
-use Rattle.std.proofs.Common.{◌≡◌, ◌≤◌, length, map, take, vec_capacity}
-use Rattle.kpn_command_stream.specs.Command.{HandedOn, flushes_of}
+use Rattle.kpn_command_stream.proofs.Common.{◌≡◌, ◌≤◌, length, map, take, vec_capacity, HandedOn, flushes_of}
 use Rattle.kpn_command_stream.proofs.running.flush_each.Given as goal
 
 abbrev pub invariant-loop-i : goal.invariant-loop-i

@@ -1,9 +1,5 @@
 -- The stream, and what the outputs handed on then.
-use Rattle.std.proofs.Common.{◌∙◌}
-use Rattle.kpn_stream_devices.specs.declared.inputs.SourceInputs.{SourceInputs}
-use Rattle.kpn_stream_devices.specs.declared.outputs.SinkOutputs.{SinkOutputs}
-use Rattle.kpn_stream_devices.specs.SourceInputs.{InputsGive, InputsLook}
-use Rattle.kpn_stream_devices.specs.SinkOutputs.{OutputsTake, OutputsFlush, Takes, Flushes}
+use Rattle.kpn_command_stream.proofs.Common.{◌∙◌, SourceInputs, SinkOutputs, InputsGive, InputsLook, OutputsTake, OutputsFlush, Takes, Flushes}
 use Rattle.kpn_command_stream.proofs.Keeping.{watched_keeps, fed_keeps, served_keeps, handed_keeps, inputs_same, looks_same, outputs_same}
 use Rattle.kpn_command_stream.proofs.running.run_over.Goals as goal
 

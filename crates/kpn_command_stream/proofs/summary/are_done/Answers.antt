@@ -1,8 +1,5 @@
 -- There are sinks.
-use Rattle.std.proofs.Common.{◌∙◌, sym, ap, length}
-use Rattle.std.specs.Prelude.{◌&&◌}
-use Rattle.std.proofs.lemmas.Bool.{lt-ltb}
-use Rattle.kpn_command_stream.specs.Summary.{are_all_done}
+use Rattle.kpn_command_stream.proofs.Common.{◌∙◌, sym, ap, length, ◌&&◌, lt-ltb, are_all_done}
 use Rattle.kpn_command_stream.proofs.summary.are_done.Goals as goal
 
 pub returns-then-sinks-gt0 : goal.returns-then-sinks-gt0

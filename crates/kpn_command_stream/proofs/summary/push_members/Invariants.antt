@@ -1,7 +1,5 @@
 -- What is written so far and the names that are still to come are the whole.
-use Rattle.std.proofs.Common.{◌≡◌, ◌++◌, drop}
-use Rattle.std.specs.String.{string_bytes}
-use Rattle.kpn_command_stream.specs.Summary.{members_text}
+use Rattle.kpn_command_stream.proofs.Common.{◌≡◌, ◌++◌, drop, string_bytes, members_text}
 use Rattle.kpn_command_stream.proofs.summary.push_members.Given as goal
 
 abbrev pub invariant-loop-p : goal.invariant-loop-p

@@ -1,7 +1,5 @@
 -- What is written so far and the lines that are still to come are the whole.
-use Rattle.std.proofs.Common.{◌≡◌, ◌++◌, drop}
-use Rattle.std.specs.String.{string_bytes}
-use Rattle.kpn_command_stream.specs.Summary.{rings_text}
+use Rattle.kpn_command_stream.proofs.Common.{◌≡◌, ◌++◌, drop, string_bytes, rings_text}
 use Rattle.kpn_command_stream.proofs.summary.push_rings.Given as goal
 
 abbrev pub invariant-loop-members : goal.invariant-loop-members

@@ -1,11 +1,6 @@
 -- One sink more.
-use Rattle.std.proofs.Common.{rules, ◌<◌, ◌∙◌, length, take, List, sym, ap, subst, ◌+◌}
-use Rattle.std.specs.List.{AllZip}
-use Rattle.kpn_net.specs.Tables.{is_sink}
-use Rattle.kpn_stream.specs.Ending.{end_numbers}
+use Rattle.kpn_command_stream.proofs.Common.{rules, ◌<◌, ◌∙◌, length, take, List, sym, ap, subst, ◌+◌, AllZip, is_sink, end_numbers, SinkEnd, IsSinkEnd}
 use Rattle.kpn_stream.proofs.Handling.{listed}
-use Rattle.kpn_command_stream.specs.declared.summary.SinkEnd.{SinkEnd}
-use Rattle.kpn_command_stream.specs.Summary.{IsSinkEnd}
 use Rattle.kpn_command_stream.proofs.Listing.{zipped_more}
 use Rattle.kpn_command_stream.proofs.summary.sink_ends.Goals as goal
 

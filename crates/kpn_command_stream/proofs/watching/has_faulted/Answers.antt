@@ -1,6 +1,5 @@
 -- One process more.
-use Rattle.std.proofs.Common.{◌<◌, ◌≤◌, length, sym, ◌∙◌, ap, arith, rules}
-use Rattle.kpn_command_base.specs.Faulted.{is_faulted}
+use Rattle.kpn_command_stream.proofs.Common.{◌<◌, ◌≤◌, length, sym, ◌∙◌, ap, arith, rules, is_faulted}
 use Rattle.kpn_command_stream.proofs.Faulting.{not_faulted_more}
 use Rattle.kpn_command_stream.proofs.watching.has_faulted.Goals as goal
 

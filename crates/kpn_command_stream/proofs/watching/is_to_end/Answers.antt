@@ -1,6 +1,5 @@
 -- It is asked for or not, and a process has faulted or none; or the trace is too long.
-use Rattle.std.proofs.Common.{◌∙◌, sym, inl, inr}
-use Rattle.std.proofs.lemmas.Bool.{false≢true}
+use Rattle.kpn_command_stream.proofs.Common.{◌∙◌, sym, inl, inr, false≢true}
 use Rattle.kpn_command_stream.proofs.watching.is_to_end.Goals as goal
 
 pub returns-then-is_too_long : goal.returns-then-is_too_long

@@ -1,11 +1,5 @@
 -- The wait and the box of a get or put are what is drawn of the event.
-use Rattle.std.proofs.Common.{SFits, w64, codes, rules, ap, ap₂, ◌∙◌}
-use Rattle.std.proofs.lemmas.Int.{to_z-of_z}
-use Rattle.std.proofs.lemmas.Result.{on_ok_weaker}
-use Rattle.std.specs.String.{string_bytes}
-use Rattle.kpn_text_names.specs.Names.{name_at}
-use Rattle.kpn_ticks.specs.Ticks.{get_tick, put_tick}
-use Rattle.kpn_ticks.specs.Shown.{shown}
+use Rattle.kpn_command_views.proofs.Common.{SFits, w64, codes, rules, ap, ap₂, ◌∙◌, to_z-of_z, on_ok_weaker, string_bytes, name_at, get_tick, put_tick, shown}
 use Rattle.kpn_command_views.proofs.Drawn.{moved}
 use Rattle.kpn_command_views.proofs.boxes.push_event.Goals as goal
 

@@ -1,7 +1,5 @@
 -- The ticks and the name are those of the clocks and of the document.
-use Rattle.std.proofs.Common.{codes}
-use Rattle.kpn_command_base.specs.Added.{Adds}
-use Rattle.kpn_ticks.specs.Shown.{shown}
+use Rattle.kpn_command_views.proofs.Common.{codes, Adds, shown}
 use Rattle.kpn_command_views.proofs.Drawn.{lasted}
 use Rattle.kpn_command_views.proofs.boxes.push_last.Goals as goal
 

@@ -1,7 +1,5 @@
 -- One write more, with the reads before it.
-use Rattle.std.proofs.Common.{◌+◌, drop, refl, ap, arith, rules}
-use Rattle.std.specs.String.{string_bytes}
-use Rattle.kpn_command_views.specs.TimelineText.{counter_lines}
+use Rattle.kpn_command_views.proofs.Common.{◌+◌, drop, refl, ap, arith, rules, string_bytes, counter_lines}
 use Rattle.kpn_command_views.proofs.TimelineLines.{write_next}
 use Rattle.kpn_command_views.proofs.GoingOut.{none_sent, step, counters_done}
 use Rattle.kpn_command_views.proofs.counters.send_counters.Goals as goal

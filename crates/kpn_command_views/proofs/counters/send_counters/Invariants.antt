@@ -1,8 +1,5 @@
 -- What is sent, what is kept, and the writes and reads to come are the whole.
-use Rattle.std.proofs.Common.{◌≤◌, ◌++◌, drop, length}
-use Rattle.std.specs.String.{string_bytes}
-use Rattle.kpn_command_views.specs.Sent.{IsSentWhole}
-use Rattle.kpn_command_views.specs.TimelineText.{counter_lines}
+use Rattle.kpn_command_views.proofs.Common.{◌≤◌, ◌++◌, drop, length, string_bytes, IsSentWhole, counter_lines}
 use Rattle.kpn_command_views.proofs.counters.send_counters.Given as goal
 
 abbrev pub invariant-loop-tick : goal.invariant-loop-tick

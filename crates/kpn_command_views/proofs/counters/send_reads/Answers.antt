@@ -1,7 +1,5 @@
 -- One read more.
-use Rattle.std.proofs.Common.{drop, drop_of_length-le, ap, rules, arith}
-use Rattle.std.specs.String.{string_bytes}
-use Rattle.kpn_command_views.specs.TimelineText.{read_lines}
+use Rattle.kpn_command_views.proofs.Common.{drop, drop_of_length-le, ap, rules, arith, string_bytes, read_lines}
 use Rattle.kpn_command_views.proofs.TimelineLines.{reads_next}
 use Rattle.kpn_command_views.proofs.GoingOut.{none_sent, step, with_nothing, nothing_to_come}
 use Rattle.kpn_command_views.proofs.counters.send_reads.Goals as goal

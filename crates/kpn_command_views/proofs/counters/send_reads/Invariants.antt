@@ -1,8 +1,5 @@
 -- What is sent, what is kept, and the reads to come are the whole.
-use Rattle.std.proofs.Common.{◌++◌, drop}
-use Rattle.std.specs.String.{string_bytes}
-use Rattle.kpn_command_views.specs.Sent.{IsSentWhole}
-use Rattle.kpn_command_views.specs.TimelineText.{read_lines}
+use Rattle.kpn_command_views.proofs.Common.{◌++◌, drop, string_bytes, IsSentWhole, read_lines}
 use Rattle.kpn_command_views.proofs.counters.send_reads.Given as goal
 
 abbrev pub invariant-loop-tick : goal.invariant-loop-tick

@@ -1,7 +1,5 @@
 -- One tick more.
-use Rattle.std.proofs.Common.{◌+◌}
-use Rattle.std.specs.String.{string_bytes}
-use Rattle.kpn_command_views.specs.PictureText.{axis_line}
+use Rattle.kpn_command_views.proofs.Common.{◌+◌, string_bytes, axis_line}
 use Rattle.kpn_command_views.proofs.TimelineLines.{one_more}
 use Rattle.kpn_command_views.proofs.frame.push_axis.Goals as goal
 

@@ -1,7 +1,4 @@
-use Rattle.std.proofs.Common.{◌≡◌, ◌+◌, ◌++◌}
-use Rattle.std.specs.String.{string_bytes}
-use Rattle.kpn_command_views.specs.TimelineText.{each_below}
-use Rattle.kpn_command_views.specs.PictureText.{axis_line}
+use Rattle.kpn_command_views.proofs.Common.{◌≡◌, ◌+◌, ◌++◌, string_bytes, each_below, axis_line}
 use Rattle.kpn_command_views.proofs.frame.push_axis.Given as goal
 
 abbrev pub invariant-loop-k : goal.invariant-loop-k

@@ -1,8 +1,5 @@
 -- The size, the style, and which ticks are shown.
-use Rattle.std.proofs.Common.{ℕ, List, max, ◌+◌, ◌++◌, ap, ◌∙◌}
-use Rattle.std.specs.String.{string_bytes}
-use Rattle.kpn_command_base.proofs.PieceLemmas.{three_pieces}
-use Rattle.kpn_command_views.specs.PictureText.{row_place, right_of, size_text, style_text, caption_text}
+use Rattle.kpn_command_views.proofs.Common.{ℕ, List, max, ◌+◌, ◌++◌, ap, ◌∙◌, string_bytes, three_pieces, row_place, right_of, size_text, style_text, caption_text}
 use Rattle.kpn_command_views.proofs.frame.push_head.Goals as goal
 
 pub returns : goal.returns

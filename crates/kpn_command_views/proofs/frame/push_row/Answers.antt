@@ -1,9 +1,5 @@
 -- The band, and the name of the process.
-use Rattle.std.proofs.Common.{ℕ, List, ◌+◌, ◌-◌, ◌++◌, ap, ◌∙◌}
-use Rattle.std.specs.String.{string_bytes}
-use Rattle.kpn_text_names.specs.Names.{name_at}
-use Rattle.kpn_command_base.proofs.PieceLemmas.{two_pieces}
-use Rattle.kpn_command_views.specs.PictureText.{row_place, right_of, row_band, row_name_text}
+use Rattle.kpn_command_views.proofs.Common.{ℕ, List, ◌+◌, ◌-◌, ◌++◌, ap, ◌∙◌, string_bytes, name_at, two_pieces, row_place, right_of, row_band, row_name_text}
 use Rattle.kpn_command_views.proofs.frame.push_row.Goals as goal
 
 pub returns : goal.returns

@@ -1,6 +1,5 @@
 -- One row more.
-use Rattle.std.specs.String.{string_bytes}
-use Rattle.kpn_command_views.specs.PictureText.{row}
+use Rattle.kpn_command_views.proofs.Common.{string_bytes, row}
 use Rattle.kpn_command_views.proofs.TimelineLines.{one_more}
 use Rattle.kpn_command_views.proofs.frame.push_rows.Goals as goal
 

@@ -1,9 +1,5 @@
 -- The figures are those of the history.
-use Rattle.std.proofs.Common.{subst}
-use Rattle.kpn_net.specs.Tables.{Tables}
-use Rattle.kpn_audit.specs.Stored.{tables_for, history_in}
-use Rattle.kpn_command_views.specs.Figures.{AreFigures}
-use Rattle.kpn_command_views.specs.HistoryTimes.{AreTimes}
+use Rattle.kpn_command_views.proofs.Common.{subst, Tables, tables_for, history_in, AreFigures, AreTimes}
 use Rattle.kpn_command_views.proofs.StatsTold.{of_history}
 use Rattle.kpn_command_views.proofs.measured.measure.Goals as goal
 

@@ -1,7 +1,4 @@
-use Rattle.std.proofs.Common.{◌≡◌, ◌+◌, ◌*◌, ◌≤◌, true, take, drop}
-use Rattle.kpn_ticks.specs.Ticks.{start, clocks_after}
-use Rattle.kpn_ticks.specs.Shown.{shown}
-use Rattle.kpn_command_views.specs.PictureText.{all_box_count}
+use Rattle.kpn_command_views.proofs.Common.{◌≡◌, ◌+◌, ◌*◌, ◌≤◌, true, take, drop, start, clocks_after, shown, all_box_count}
 use Rattle.kpn_command_views.proofs.picture.count_boxes.Given as goal
 
 abbrev pub invariant-loop-k : goal.invariant-loop-k

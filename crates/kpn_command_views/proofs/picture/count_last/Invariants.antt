@@ -1,6 +1,4 @@
-use Rattle.std.proofs.Common.{◌≡◌, ◌≤◌}
-use Rattle.kpn_ticks.specs.Shown.{shown}
-use Rattle.kpn_command_views.specs.PictureText.{last_counts}
+use Rattle.kpn_command_views.proofs.Common.{◌≡◌, ◌≤◌, shown, last_counts}
 use Rattle.kpn_command_views.proofs.picture.count_last.Given as goal
 
 abbrev pub invariant-loop-p : goal.invariant-loop-p

@@ -1,8 +1,4 @@
-use Rattle.std.proofs.Common.{◌≡◌, ◌++◌, true, take, drop}
-use Rattle.std.specs.String.{string_bytes}
-use Rattle.kpn_ticks.specs.Ticks.{start, clocks_after}
-use Rattle.kpn_ticks.specs.Shown.{shown}
-use Rattle.kpn_command_views.specs.PictureText.{all_event_boxes}
+use Rattle.kpn_command_views.proofs.Common.{◌≡◌, ◌++◌, true, take, drop, string_bytes, start, clocks_after, shown, all_event_boxes}
 use Rattle.kpn_command_views.proofs.picture.push_events.Given as goal
 
 abbrev pub invariant-loop-k : goal.invariant-loop-k

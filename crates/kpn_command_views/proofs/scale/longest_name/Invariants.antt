@@ -1,5 +1,4 @@
-use Rattle.std.proofs.Common.{◌≡◌}
-use Rattle.kpn_command_views.specs.PictureText.{longest_below}
+use Rattle.kpn_command_views.proofs.Common.{◌≡◌, longest_below}
 use Rattle.kpn_command_views.proofs.scale.longest_name.Given as goal
 
 abbrev pub invariant-loop-p : goal.invariant-loop-p

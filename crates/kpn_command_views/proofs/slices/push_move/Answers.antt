@@ -1,9 +1,5 @@
 -- The wait, and after it the slice of the item.
-use Rattle.std.proofs.Common.{◌≡◌, ℤ, ◌++◌, SFits, w64, subst, rules}
-use Rattle.std.proofs.lemmas.Int.{to_z-of_z}
-use Rattle.std.specs.String.{string_bytes}
-use Rattle.kpn_command_base.proofs.PieceLemmas.{two_pieces}
-use Rattle.kpn_command_views.specs.TimelineText.{wait_slice, item_slice}
+use Rattle.kpn_command_views.proofs.Common.{◌≡◌, ℤ, ◌++◌, SFits, w64, subst, rules, to_z-of_z, string_bytes, two_pieces, wait_slice, item_slice}
 use Rattle.kpn_command_views.proofs.slices.push_move.Goals as goal
 
 pub returns : goal.returns

@@ -1,6 +1,5 @@
 -- An instance of a network has as many values as its process has parameters.
-use Rattle.std.proofs.Common.{length, ap, sym, ◌∙◌, arith}
-use Rattle.kpn_net.proofs.Networks.{IsInstance-of}
+use Rattle.kpn_command_views.proofs.Common.{length, ap, sym, ◌∙◌, arith, IsInstance-of}
 use Rattle.kpn_command_views.proofs.steps.steps_of.Goals as goal
 
 pub try_start-requires : goal.try_start-requires

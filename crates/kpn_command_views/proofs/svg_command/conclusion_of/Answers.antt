@@ -1,10 +1,5 @@
 -- The events of the trace have the picture of its history, with the waits that the audit finds.
-use Rattle.std.proofs.Common.{◌≤◌, List, refl, ap₂, subst, ◌∙◌}
-use Rattle.kpn_net.specs.declared.wait.Wait.{Wait}
-use Rattle.kpn_history.specs.declared.event.Event.{Event}
-use Rattle.kpn_audit.specs.Stored.{tables_for}
-use Rattle.kpn_command_views.specs.PictureText.{picture, picture_size}
-use Rattle.kpn_command_views.specs.PictureAnswers.{IsNoPicture}
+use Rattle.kpn_command_views.proofs.Common.{◌≤◌, List, refl, ap₂, subst, ◌∙◌, Wait, Event, tables_for, picture, picture_size, IsNoPicture}
 use Rattle.kpn_command_views.proofs.PictureTold.{same_picture, same_size}
 use Rattle.kpn_command_views.proofs.svg_command.conclusion_of.Goals as goal
 

@@ -1,10 +1,5 @@
 -- The wait of one process more.
-use Rattle.std.proofs.Common.{◌++◌, ap, ◌∙◌}
-use Rattle.std.specs.String.{string_bytes}
-use Rattle.kpn_net.specs.declared.wait.Wait.{Wait}
-use Rattle.kpn_net.specs.Waits.{wait_at}
-use Rattle.kpn_ticks.specs.Shown.{shown}
-use Rattle.kpn_command_views.specs.TimelineText.{last_wait}
+use Rattle.kpn_command_views.proofs.Common.{◌++◌, ap, ◌∙◌, string_bytes, Wait, wait_at, shown, last_wait}
 use Rattle.kpn_command_views.proofs.TimelineLines.{one_more}
 use Rattle.kpn_command_views.proofs.timeline.push_last_waits.Goals as goal
 

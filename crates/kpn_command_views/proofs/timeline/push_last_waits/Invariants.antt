@@ -1,8 +1,4 @@
-use Rattle.std.proofs.Common.{◌≡◌, ◌++◌}
-use Rattle.std.specs.String.{string_bytes}
-use Rattle.kpn_net.specs.Waits.{wait_at}
-use Rattle.kpn_ticks.specs.Shown.{shown}
-use Rattle.kpn_command_views.specs.TimelineText.{each_below, last_wait}
+use Rattle.kpn_command_views.proofs.Common.{◌≡◌, ◌++◌, string_bytes, wait_at, shown, each_below, last_wait}
 use Rattle.kpn_command_views.proofs.timeline.push_last_waits.Given as goal
 
 abbrev pub invariant-loop-p : goal.invariant-loop-p

@@ -1,8 +1,5 @@
 -- One track more.
-use Rattle.std.proofs.Common.{◌++◌, ap, ◌∙◌}
-use Rattle.std.specs.String.{string_bytes}
-use Rattle.kpn_text_names.specs.Names.{name_at}
-use Rattle.kpn_command_views.specs.TimelineText.{track_line}
+use Rattle.kpn_command_views.proofs.Common.{◌++◌, ap, ◌∙◌, string_bytes, name_at, track_line}
 use Rattle.kpn_command_views.proofs.TimelineLines.{one_more}
 use Rattle.kpn_command_views.proofs.timeline.push_tracks.Goals as goal
 

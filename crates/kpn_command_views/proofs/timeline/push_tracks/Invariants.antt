@@ -1,7 +1,4 @@
-use Rattle.std.proofs.Common.{◌≡◌, ◌++◌}
-use Rattle.std.specs.String.{string_bytes}
-use Rattle.kpn_text_names.specs.Names.{name_at}
-use Rattle.kpn_command_views.specs.TimelineText.{each_below, track_line}
+use Rattle.kpn_command_views.proofs.Common.{◌≡◌, ◌++◌, string_bytes, name_at, each_below, track_line}
 use Rattle.kpn_command_views.proofs.timeline.push_tracks.Given as goal
 
 abbrev pub invariant-loop-p : goal.invariant-loop-p

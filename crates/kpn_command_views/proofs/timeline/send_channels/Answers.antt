@@ -1,11 +1,5 @@
 -- One counter more.
-use Rattle.std.proofs.Common.{◌≡◌, ℕ, List, ◌++◌, ap, ◌∙◌, subst, arith}
-use Rattle.std.specs.String.{string_bytes}
-use Rattle.kpn_text_names.specs.Names.{name_at}
-use Rattle.kpn_ticks.specs.Ticks.{written_of}
-use Rattle.kpn_ticks.specs.Shown.{shown}
-use Rattle.kpn_command_views.specs.Sent.{IsSentWhole}
-use Rattle.kpn_command_views.specs.TimelineText.{each_below, counter_label, counter_lines, channel_counters}
+use Rattle.kpn_command_views.proofs.Common.{◌≡◌, ℕ, List, ◌++◌, ap, ◌∙◌, subst, arith, string_bytes, name_at, written_of, shown, IsSentWhole, each_below, counter_label, counter_lines, channel_counters}
 use Rattle.kpn_command_views.proofs.GoingOut.{none_sent_more, one_number_more}
 use Rattle.kpn_command_views.proofs.timeline.send_channels.Goals as goal
 

@@ -1,8 +1,4 @@
-use Rattle.std.proofs.Common.{◌++◌}
-use Rattle.std.specs.String.{string_bytes}
-use Rattle.kpn_ticks.specs.Shown.{shown}
-use Rattle.kpn_command_views.specs.Sent.{IsSentWhole}
-use Rattle.kpn_command_views.specs.TimelineText.{each_below, channel_counters}
+use Rattle.kpn_command_views.proofs.Common.{◌++◌, string_bytes, shown, IsSentWhole, each_below, channel_counters}
 use Rattle.kpn_command_views.proofs.timeline.send_channels.Given as goal
 
 abbrev pub invariant-loop-c : goal.invariant-loop-c

@@ -1,13 +1,5 @@
 -- The clocks are those of the events so far, whose ticks are few.
-use Rattle.std.proofs.Common.{◌++◌, true, take, drop, drop_of_length-le, sym, subst, ap, ◌∙◌, arith}
-use Rattle.std.specs.String.{string_bytes}
-use Rattle.std.proofs.lemmas.List.{take_all}
-use Rattle.std.proofs.lemmas.List.{length-take}
-use Rattle.kpn_ticks.specs.Ticks.{Clocks, start, clocks_after}
-use Rattle.kpn_ticks.specs.Shown.{shown, AreClocks}
-use Rattle.kpn_ticks.proofs.Counting.{clocks_are, ticks_are_few}
-use Rattle.kpn_command_views.specs.Sent.{IsSentWhole}
-use Rattle.kpn_command_views.specs.TimelineText.{all_event_lines}
+use Rattle.kpn_command_views.proofs.Common.{◌++◌, true, take, drop, drop_of_length-le, sym, subst, ap, ◌∙◌, arith, string_bytes, take_all, length-take, Clocks, start, clocks_after, shown, AreClocks, clocks_are, ticks_are_few, IsSentWhole, all_event_lines}
 use Rattle.kpn_command_views.proofs.TimelineLines.{events_next, clocks_next}
 use Rattle.kpn_command_views.proofs.GoingOut.{none_sent, step, with_nothing, nothing_to_come}
 use Rattle.kpn_command_views.proofs.timeline.send_events.Goals as goal

@@ -1,11 +1,6 @@
 -- The clocks are those of the events so far. What is sent, what is kept, and what is drawn of the events to come are the
 -- whole.
-use Rattle.std.proofs.Common.{◌≡◌, ◌++◌, true, take, drop}
-use Rattle.std.specs.String.{string_bytes}
-use Rattle.kpn_ticks.specs.Ticks.{start, clocks_after}
-use Rattle.kpn_ticks.specs.Shown.{shown}
-use Rattle.kpn_command_views.specs.Sent.{IsSentWhole}
-use Rattle.kpn_command_views.specs.TimelineText.{all_event_lines}
+use Rattle.kpn_command_views.proofs.Common.{◌≡◌, ◌++◌, true, take, drop, string_bytes, start, clocks_after, shown, IsSentWhole, all_event_lines}
 use Rattle.kpn_command_views.proofs.timeline.send_events.Given as goal
 
 abbrev pub invariant-loop-k : goal.invariant-loop-k

@@ -1,12 +1,5 @@
 -- All parts, one after another.
-use Rattle.std.proofs.Common.{ℕ, List, ◌++◌, true, length, codes, sym, subst, ap, ◌∙◌, arith}
-use Rattle.std.specs.String.{string_bytes}
-use Rattle.std.specs.Io.KnownBytes.{Appends}
-use Rattle.kpn_text_names.specs.Names.{name_at}
-use Rattle.kpn_ticks.specs.Ticks.{Clocks, start, clocks_after}
-use Rattle.kpn_ticks.specs.Shown.{shown, AreClocks}
-use Rattle.kpn_ticks.proofs.Counting.{clocks_are, ticks_are_few}
-use Rattle.kpn_command_views.specs.TimelineText.{timeline_head, track_line, each_below, all_event_lines, last_waits, channel_counters}
+use Rattle.kpn_command_views.proofs.Common.{ℕ, List, ◌++◌, true, length, codes, sym, subst, ap, ◌∙◌, arith, string_bytes, Appends, name_at, Clocks, start, clocks_after, shown, AreClocks, clocks_are, ticks_are_few, timeline_head, track_line, each_below, all_event_lines, last_waits, channel_counters}
 use Rattle.kpn_command_views.proofs.GoingOut.{timeline_sent}
 use Rattle.kpn_command_views.proofs.timeline.send_timeline.Goals as goal
 

@@ -1,10 +1,6 @@
 -- Events of version 1 grow by its rules.
-use Rattle.std.proofs.Common.{OnOk, ap, ◌∙◌, subst}
-use Rattle.std.specs.Io.KnownBytes.{Appends}
-use Rattle.kpn_net.specs.Tables.{Tables, under}
-use Rattle.kpn_net.specs.declared.tables.Policy.TheVariants.{Cycles}
+use Rattle.kpn_command_views.proofs.Common.{OnOk, ap, ◌∙◌, subst, Appends, Tables, under, Cycles, timeline}
 use Rattle.kpn_net.specs.declared.tables.Growth.TheVariants as growth
-use Rattle.kpn_command_views.specs.TimelineText.{timeline}
 use Rattle.kpn_command_views.proofs.timelines.send_under.Goals as goal
 
 pub returns-in-Two : goal.returns-in-Two

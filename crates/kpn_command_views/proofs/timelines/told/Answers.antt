@@ -1,10 +1,5 @@
 -- The events of the trace have the timeline of its history.
-use Rattle.std.proofs.Common.{List, refl, ap₂, ◌∙◌, subst}
-use Rattle.std.specs.Io.KnownBytes.{Appends}
-use Rattle.kpn_net.specs.declared.wait.Wait.{Wait}
-use Rattle.kpn_history.specs.declared.event.Event.{Event}
-use Rattle.kpn_audit.specs.Stored.{tables_for}
-use Rattle.kpn_command_views.specs.TimelineText.{timeline}
+use Rattle.kpn_command_views.proofs.Common.{List, refl, ap₂, ◌∙◌, subst, Appends, Wait, Event, tables_for, timeline}
 use Rattle.kpn_command_views.proofs.TimelineTold.{of_history}
 use Rattle.kpn_command_views.proofs.timelines.told.Goals as goal
 

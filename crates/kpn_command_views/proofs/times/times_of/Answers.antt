@@ -1,7 +1,5 @@
 -- The times are those of the history of the trace.
-use Rattle.std.proofs.Common.{List, length, count_by, refl, ap, ◌∙◌}
-use Rattle.kpn_history.specs.declared.event.Event.{Event}
-use Rattle.kpn_command_views.specs.HistoryTimes.{is_move}
+use Rattle.kpn_command_views.proofs.Common.{List, length, count_by, refl, ap, ◌∙◌, Event, is_move}
 use Rattle.kpn_command_views.proofs.StatsTold.{times_of_history}
 use Rattle.kpn_command_views.proofs.times.times_of.Goals as goal
 

@@ -1,7 +1,5 @@
 -- So few items never pause a process, and then it puts the plain values.
-use Rattle.std.proofs.Common.{rules, ◌^◌, ◌-◌, [], ◌∷◌, arith}
-use Rattle.kpn_step.specs.Walk.{AloneGives}
-use Rattle.kpn_commands.specs.BuiltIn.{built_in_program}
+use Rattle.kpn_commands.proofs.Common.{rules, ◌^◌, ◌-◌, [], ◌∷◌, arith, AloneGives, built_in_program}
 use Rattle.kpn_commands.proofs.Plain.{puts_plainly}
 use Rattle.kpn_commands.proofs.Pauses.{never_paused}
 use Rattle.kpn_commands.proofs.alone.run_on.Goals as goal

@@ -1,8 +1,6 @@
 -- What is written so far, and what is still to come, are the text of all items put.
-use Rattle.std.proofs.Common.{◌≡◌, ◌++◌, drop}
-use Rattle.std.specs.String.{string_bytes}
+use Rattle.kpn_commands.proofs.Common.{◌≡◌, ◌++◌, drop, string_bytes, put_at}
 use Rattle.kpn_text_items.specs.ItemFile.{item_text}
-use Rattle.kpn_lang.specs.Alone.{put_at}
 use Rattle.kpn_commands.proofs.alone_text.text_of.Given as goal
 
 abbrev pub invariant-loop-said : goal.invariant-loop-said

@@ -1,6 +1,5 @@
 -- The files so far, and those of the sinks that are still to come, are all.
-use Rattle.std.proofs.Common.{◌≡◌, ◌++◌, drop, map}
-use Rattle.kpn_command_base.specs.Conclusion.{stored_as}
+use Rattle.kpn_commands.proofs.Common.{◌≡◌, ◌++◌, drop, map, stored_as}
 use Rattle.kpn_commands.specs.Files.{sink_files}
 use Rattle.kpn_commands.proofs.files.push_sinks.Given as goal
 

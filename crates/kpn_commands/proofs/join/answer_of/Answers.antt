@@ -1,8 +1,5 @@
 -- The parts that are loaded are those of the files.
-use Rattle.std.proofs.Common.{◌/◌, length, map, subst}
-use Rattle.std.specs.Prelude.{IfNone}
-use Rattle.kpn_commands.specs.Join.{joins}
-use Rattle.kpn_commands.specs.JoinParts.{AreLoaded}
+use Rattle.kpn_commands.proofs.Common.{◌/◌, length, map, subst, IfNone, joins, AreLoaded}
 use Rattle.kpn_commands.proofs.Joins.{read_if_loaded}
 use Rattle.kpn_commands.proofs.join.answer_of.Goals as goal
 

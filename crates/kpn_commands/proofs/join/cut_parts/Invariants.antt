@@ -1,5 +1,4 @@
-use Rattle.std.proofs.Common.{take}
-use Rattle.kpn_commands.specs.JoinParts.{HasTables}
+use Rattle.kpn_commands.proofs.Common.{take, HasTables}
 use Rattle.kpn_commands.proofs.join.cut_parts.Given as goal
 
 abbrev pub invariant-loop-r : goal.invariant-loop-r

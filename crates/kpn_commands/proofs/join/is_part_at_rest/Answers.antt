@@ -1,6 +1,4 @@
-use Rattle.std.proofs.Common.{◌∙◌, ap}
-use Rattle.std.specs.List.{list_all}
-use Rattle.kpn_commands.specs.JoinParts.{is_settled}
+use Rattle.kpn_commands.proofs.Common.{◌∙◌, ap, list_all, is_settled}
 use Rattle.kpn_commands.proofs.Joins.{part_rests}
 use Rattle.kpn_commands.proofs.join.is_part_at_rest.Goals as goal
 

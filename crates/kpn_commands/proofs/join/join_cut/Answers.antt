@@ -1,14 +1,6 @@
 -- The order that is found is that of a joined run, and what can't come comes in none.
-use Rattle.std.proofs.Common.{◌∙◌, codes, ap, subst}
-use Rattle.std.specs.Prelude.{IfSome}
-use Rattle.std.proofs.lemmas.Result.{IfOk-weaker}
-use Rattle.kpn_net.specs.Tables.{Tables}
-use Rattle.kpn_net.specs.Faults.{IsNetwork}
-use Rattle.kpn_parts.specs.Cut.{IsCut}
-use Rattle.kpn_parts.specs.Homes.{AreHomes}
-use Rattle.kpn_parts.specs.Links.{AreLinks, IsJoinOf, ComesInNone, JoinComesTo}
+use Rattle.kpn_commands.proofs.Common.{◌∙◌, codes, ap, subst, IfSome, IfOk-weaker, Tables, IsNetwork, IsCut, AreHomes, AreLinks, IsJoinOf, ComesInNone, JoinComesTo, legal, stuck, line_at}
 use Rattle.kpn_parts.proofs.Links.{join_is_joined}
-use Rattle.kpn_commands.specs.Join.{legal, stuck, line_at}
 use Rattle.kpn_commands.proofs.Joins.{are_legal}
 use Rattle.kpn_commands.proofs.join.join_cut.Goals as goal
 

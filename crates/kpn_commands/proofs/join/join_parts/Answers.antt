@@ -1,6 +1,4 @@
-use Rattle.std.proofs.Common.{map, rules, subst}
-use Rattle.std.proofs.lemmas.Result.{IfOk-weaker}
-use Rattle.kpn_commands.specs.Join.{TellsOfParts}
+use Rattle.kpn_commands.proofs.Common.{map, rules, subst, IfOk-weaker, TellsOfParts}
 use Rattle.kpn_commands.proofs.join.join_parts.Goals as goal
 
 pub returns : goal.returns

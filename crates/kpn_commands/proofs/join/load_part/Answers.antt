@@ -1,6 +1,5 @@
 -- What is told of a flaw is told of what an audit of the two files finds.
-use Rattle.std.proofs.Common.{subst}
-use Rattle.kpn_net.specs.Tables.{Tables}
+use Rattle.kpn_commands.proofs.Common.{subst, Tables}
 use Rattle.kpn_command_base.specs.Audited.{IsFinding}
 use Rattle.kpn_commands.proofs.join.load_part.Goals as goal
 

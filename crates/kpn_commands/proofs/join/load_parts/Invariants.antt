@@ -1,6 +1,5 @@
 -- The parts so far are loaded.
-use Rattle.std.proofs.Common.{map}
-use Rattle.kpn_commands.specs.JoinParts.{AreLoaded}
+use Rattle.kpn_commands.proofs.Common.{map, AreLoaded}
 use Rattle.kpn_commands.proofs.join.load_parts.Given as goal
 
 abbrev pub invariant-loop-r : goal.invariant-loop-r

@@ -1,8 +1,5 @@
 -- The audits show the journals of the whole.
-use Rattle.std.proofs.Common.{◌≡◌, ◌↔◌, ◌∙◌, ◌<◌, ℕ, true, length, map, refl, sym, ap, subst}
-use Rattle.kpn_net.specs.Faults.{IsNetwork}
-use Rattle.kpn_parts.specs.Cut.{part_at}
-use Rattle.kpn_commands.specs.JoinParts.{AreIn, audited_journal, audited_capacity, is_part_at_rest}
+use Rattle.kpn_commands.proofs.Common.{◌≡◌, ◌↔◌, ◌∙◌, ◌<◌, ℕ, true, length, map, refl, sym, ap, subst, IsNetwork, part_at, AreIn, audited_journal, audited_capacity, is_part_at_rest}
 use Rattle.kpn_commands.proofs.Joins.{are_in, capacities_are, journals_are, rest_if, if_rest, text_is}
 use Rattle.kpn_commands.proofs.join.report.Goals as goal
 

@@ -1,5 +1,4 @@
-use Rattle.std.proofs.Common.{◌∙◌, refl}
-use Rattle.kpn_commands.specs.JoinParts.{audited_journal, audited_capacity}
+use Rattle.kpn_commands.proofs.Common.{◌∙◌, refl, audited_journal, audited_capacity}
 use Rattle.kpn_commands.proofs.Joins.{no_audit, shown_next}
 use Rattle.kpn_commands.proofs.join.whole_audit.Goals as goal
 

@@ -1,6 +1,5 @@
 -- What is shown of the homes so far.
-use Rattle.std.proofs.Common.{◌≡◌, map, take}
-use Rattle.kpn_commands.specs.JoinParts.{audited_journal, audited_capacity}
+use Rattle.kpn_commands.proofs.Common.{◌≡◌, map, take, audited_journal, audited_capacity}
 use Rattle.kpn_commands.proofs.join.whole_audit.Given as goal
 
 abbrev pub invariant-loop-c : goal.invariant-loop-c

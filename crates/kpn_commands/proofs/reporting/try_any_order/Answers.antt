@@ -1,7 +1,4 @@
-use Rattle.std.proofs.Common.{◌≡◌, ◌≤◌, length, subst, arith, rules}
-use Rattle.kpn_book.specs.declared.outcome.Limits.{Limits}
-use Rattle.kpn_book.specs.declared.outcome.Outcome.TheVariants.{Stopped}
-use Rattle.kpn_book.specs.Reports.{IsReport}
+use Rattle.kpn_commands.proofs.Common.{◌≡◌, ◌≤◌, length, subst, arith, rules, Limits, Stopped, IsReport}
 use Rattle.kpn_commands.proofs.AnyOrder.{same_report, fewer_commits}
 use Rattle.kpn_commands.proofs.reporting.try_any_order.Goals as goal
 

@@ -1,7 +1,5 @@
 -- The lists are those of the channels, and the text is that of the lists.
-use Rattle.std.proofs.Common.{◌≡◌, ap, ◌∙◌, refl}
-use Rattle.kpn_net.specs.Iteration.{given_by, iterate, lists_of}
-use Rattle.kpn_commands.specs.RoundsText.{rounds_text}
+use Rattle.kpn_commands.proofs.Common.{◌≡◌, ap, ◌∙◌, refl, given_by, iterate, lists_of, rounds_text}
 use Rattle.kpn_commands.proofs.rounds.rounds_command.Goals as goal
 
 pub returns-clause-ok : goal.returns-clause-ok

@@ -1,8 +1,5 @@
 -- What is written so far and the lines that are still to come are the whole text.
-use Rattle.std.proofs.Common.{◌≡◌, ◌++◌, drop}
-use Rattle.std.specs.String.{string_bytes}
-use Rattle.kpn_command_base.specs.ListText.{lines_from}
-use Rattle.kpn_commands.specs.RoundsText.{list_line_of, rounds_text}
+use Rattle.kpn_commands.proofs.Common.{◌≡◌, ◌++◌, drop, string_bytes, lines_from, list_line_of, rounds_text}
 use Rattle.kpn_commands.proofs.rounds_text.text_of.Given as goal
 
 abbrev pub invariant-loop-channel : goal.invariant-loop-channel

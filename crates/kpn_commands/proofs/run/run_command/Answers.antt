@@ -1,7 +1,5 @@
 -- The report is one of the inputs and the request, and it is concluded or refused.
-use Rattle.std.proofs.Common.{inr, ◌∙◌}
-use Rattle.std.proofs.lemmas.Result.{IfOk-weaker, IfErr-weaker}
-use Rattle.kpn_commands.specs.declared.reporting.Reported.{Reported}
+use Rattle.kpn_commands.proofs.Common.{inr, ◌∙◌, IfOk-weaker, IfErr-weaker, Reported}
 use Rattle.kpn_commands.proofs.Running.{of_legal, reported_by}
 use Rattle.kpn_commands.proofs.run.run_command.Goals as goal
 

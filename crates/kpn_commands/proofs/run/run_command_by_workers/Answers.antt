@@ -1,7 +1,5 @@
 -- The report is one of the inputs and the request, and it is concluded or refused.
-use Rattle.std.proofs.lemmas.Result.{IfOk-weaker, IfErr-weaker}
-use Rattle.std.proofs.Common.{◌≡◌, ◌∙◌, Some, sym, ap, inr}
-use Rattle.kpn_commands.specs.declared.reporting.Reported.{Reported}
+use Rattle.kpn_commands.proofs.Common.{IfOk-weaker, IfErr-weaker, ◌≡◌, ◌∙◌, Some, sym, ap, inr, Reported}
 use Rattle.kpn_commands.proofs.Running.{of_legal, reported_by, has_workers}
 use Rattle.kpn_commands.proofs.run.run_command_by_workers.Goals as goal
 

@@ -1,7 +1,4 @@
-use Rattle.std.proofs.Common.{Some, sym, ap, ◌∙◌, arith}
-use Rattle.kpn_net.specs.Waits.{wait_at, awaited}
-use Rattle.kpn_cycle.specs.Scan.{cap_in}
-use Rattle.kpn_net.proofs.Cycles.{awaited_below}
+use Rattle.kpn_cycle.proofs.Common.{Some, sym, ap, ◌∙◌, arith, wait_at, awaited, cap_in, awaited_below}
 use Rattle.kpn_cycle.proofs.Scans.{on_channel}
 use Rattle.kpn_cycle.proofs.Walks.{walk-none, walk-more, walk-closed, walk-ended, walk-long}
 use Rattle.kpn_cycle.proofs.walk.cycle_through.Goals as goal

@@ -1,6 +1,4 @@
-use Rattle.std.proofs.Common.{◌<◌, length}
-use Rattle.std.specs.Prelude.{IfSome}
-use Rattle.kpn_cycle.specs.Scan.{cap_in}
+use Rattle.kpn_cycle.proofs.Common.{◌<◌, length, IfSome, cap_in}
 use Rattle.kpn_cycle.proofs.Walks.{Walked}
 use Rattle.kpn_cycle.proofs.walk.cycle_through.Given as goal
 

@@ -1,5 +1,4 @@
-use Rattle.std.proofs.Common.{◌≡◌, ◌≤◌, subst, arith}
-use Rattle.kpn_cycle.specs.Scan.{cap_in}
+use Rattle.kpn_cycle.proofs.Common.{◌≡◌, ◌≤◌, subst, arith, cap_in}
 use Rattle.kpn_cycle.proofs.Scans.{scan-more}
 use Rattle.kpn_cycle.proofs.walk.scan_all.Goals as goal
 use Rattle.kpn_cycle.proofs.walk.scan_all.Goals.{in-Full+else-caps-c, in_default}

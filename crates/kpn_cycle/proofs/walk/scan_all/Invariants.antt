@@ -1,6 +1,4 @@
-use Rattle.std.proofs.Common.{ℕ, ◌<◌}
-use Rattle.kpn_cycle.specs.Scan.{cap_in}
-use Rattle.kpn_cycle.specs.Scan.{IsBelowLimit}
+use Rattle.kpn_cycle.proofs.Common.{ℕ, ◌<◌, cap_in, IsBelowLimit}
 use Rattle.kpn_cycle.proofs.walk.scan_all.Given as goal
 
 abbrev pub invariant-loop-p : goal.invariant-loop-p

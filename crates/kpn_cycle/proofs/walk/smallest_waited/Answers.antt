@@ -1,6 +1,4 @@
-use Rattle.std.proofs.Common.{◌≡◌, length, refl, arith}
-use Rattle.kpn_net.specs.Waits.{wait_at}
-use Rattle.kpn_cycle.specs.Scan.{cap_in}
+use Rattle.kpn_cycle.proofs.Common.{◌≡◌, length, refl, arith, wait_at, cap_in}
 use Rattle.kpn_cycle.proofs.Scans.{on_channel}
 use Rattle.kpn_cycle.proofs.Walks.{met-more}
 use Rattle.kpn_cycle.proofs.walk.smallest_waited.Goals as goal

@@ -1,8 +1,4 @@
-use Rattle.std.proofs.Common.{◌<◌, length}
-use Rattle.std.specs.Prelude.{IfSome}
-use Rattle.std.specs.List.{range_with_len}
-use Rattle.kpn_net.specs.Waits.{full_channels, FindsSmallest}
-use Rattle.kpn_cycle.specs.Scan.{cap_in}
+use Rattle.kpn_cycle.proofs.Common.{◌<◌, length, IfSome, range_with_len, full_channels, FindsSmallest, cap_in}
 use Rattle.kpn_cycle.proofs.walk.smallest_waited.Given as goal
 
 abbrev pub invariant-loop-p : goal.invariant-loop-p

@@ -1,5 +1,4 @@
-use Rattle.kpn_cycle.specs.Scan.{cap_in}
-use Rattle.kpn_net.proofs.Cycles.{smallest-push}
+use Rattle.kpn_cycle.proofs.Common.{cap_in, smallest-push}
 use Rattle.kpn_cycle.proofs.walk.smallest_with.Goals as goal
 
 pub returns-in-Some-clause-smallest : goal.returns-in-Some-clause-smallest

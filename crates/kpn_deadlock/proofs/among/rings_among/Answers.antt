@@ -1,6 +1,4 @@
-use Rattle.std.specs.Prelude.{IfOk}
-use Rattle.std.proofs.Common.{◌∙◌, subst}
-use Rattle.kpn_deadlock.specs.Told.{AreRings}
+use Rattle.kpn_deadlock.proofs.Common.{IfOk, ◌∙◌, subst, AreRings}
 use Rattle.kpn_deadlock.proofs.Stated.{waits_are}
 use Rattle.kpn_deadlock.proofs.among.rings_among.Goals as goal
 

@@ -1,5 +1,4 @@
-use Rattle.std.proofs.Common.{rules, ◌<◌, length}
-use Rattle.kpn_history.specs.declared.state.State.TheVariants.{Ready}
+use Rattle.kpn_deadlock.proofs.Common.{rules, ◌<◌, length, Ready}
 use Rattle.kpn_deadlock.proofs.Stated.{states_more}
 use Rattle.kpn_deadlock.proofs.among.waits_in.Goals as goal
 

@@ -1,5 +1,4 @@
-use Rattle.std.proofs.Common.{◌≡◌, map, take}
-use Rattle.kpn_deadlock.specs.Among.{wait_of_state}
+use Rattle.kpn_deadlock.proofs.Common.{◌≡◌, map, take, wait_of_state}
 use Rattle.kpn_deadlock.proofs.among.waits_in.Given as goal
 
 abbrev pub invariant-loop-p : goal.invariant-loop-p

@@ -1,5 +1,4 @@
-use Rattle.std.proofs.Common.{Some, sym, ap, ◌∙◌, arith}
-use Rattle.kpn_net.specs.Waits.{awaited}
+use Rattle.kpn_deadlock.proofs.Common.{Some, sym, ap, ◌∙◌, arith, awaited}
 use Rattle.kpn_deadlock.proofs.Searching.{walk_none, walk_more, walk_closed, walk_ended, walk_smaller, walk_long}
 use Rattle.kpn_deadlock.proofs.search.cycle_from.Goals as goal
 

@@ -1,5 +1,4 @@
-use Rattle.std.proofs.Common.{arith}
-use Rattle.kpn_deadlock.specs.Told.{IsCycleFrom}
+use Rattle.kpn_deadlock.proofs.Common.{arith, IsCycleFrom}
 use Rattle.kpn_deadlock.proofs.Searching.{told_none, told_next, told_all}
 use Rattle.kpn_deadlock.proofs.Telling.{one_cycle, cycle_there}
 use Rattle.kpn_deadlock.proofs.search.cycles.Goals as goal

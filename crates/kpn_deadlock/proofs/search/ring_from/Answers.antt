@@ -1,5 +1,4 @@
-use Rattle.std.proofs.Common.{◌∙◌, ap, sym, subst}
-use Rattle.kpn_deadlock.specs.Told.{IsCycleFrom, FindsFrom, all_await_items}
+use Rattle.kpn_deadlock.proofs.Common.{◌∙◌, ap, sym, subst, IsCycleFrom, FindsFrom, all_await_items}
 use Rattle.kpn_deadlock.proofs.Telling.{ring_of, no_ring_of}
 use Rattle.kpn_deadlock.proofs.search.ring_from.Goals as goal
 

@@ -1,5 +1,4 @@
-use Rattle.std.proofs.Common.{arith}
-use Rattle.kpn_deadlock.specs.Told.{IsRingFrom}
+use Rattle.kpn_deadlock.proofs.Common.{arith, IsRingFrom}
 use Rattle.kpn_deadlock.proofs.Searching.{told_none, told_next, told_all}
 use Rattle.kpn_deadlock.proofs.Telling.{one_ring, ring_there, told_are_final}
 use Rattle.kpn_deadlock.proofs.search.rings.Goals as goal

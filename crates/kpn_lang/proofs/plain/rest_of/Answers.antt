@@ -1,8 +1,5 @@
 -- One list more remains after the others.
-use Rattle.std.proofs.Common.{[], arith}
-use Rattle.std.proofs.lemmas.List.{take_all, take_more}
-use Rattle.std.proofs.lemmas.Grind.{common_steps}
-use Rattle.kpn_lang.specs.Lists.{remaining}
+use Rattle.kpn_lang.proofs.Common.{[], arith, take_all, take_more, common_steps, remaining}
 use Rattle.kpn_lang.proofs.Remaining.{length-remaining, list_at-remaining}
 use Rattle.kpn_lang.proofs.plain.rest_of.Goals as goal
 

@@ -1,6 +1,5 @@
 -- A read moves the place of its list on.
-use Rattle.std.proofs.Common.{rules, Some, SFits, w64, sym, ap, ◌∙◌}
-use Rattle.std.proofs.lemmas.Int.{to_z-of_z}
+use Rattle.kpn_lang.proofs.Common.{rules, Some, SFits, w64, sym, ap, ◌∙◌, to_z-of_z}
 use Rattle.kpn_lang.proofs.Remaining.{remaining-set, no_next, without_none, next_is}
 use Rattle.kpn_lang.proofs.sequence.next_item.Goals as goal
 

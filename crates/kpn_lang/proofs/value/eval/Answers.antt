@@ -1,6 +1,5 @@
 -- An expression without cells has its value whatever cells there are.
-use Rattle.std.proofs.Common.{◌∙◌, length}
-use Rattle.kpn_lang.specs.Syntax.{term_of}
+use Rattle.kpn_lang.proofs.Common.{◌∙◌, length, term_of}
 use Rattle.kpn_lang.proofs.Cells.{names_all, value_plain}
 use Rattle.kpn_lang.proofs.value.eval.Goals as goal
 

@@ -1,8 +1,6 @@
 -- No bit is shifted out of 64, and the highest stays 0.
-use Rattle.std.proofs.Common.{◌^◌, ◌∙◌, ap, arith, w64, to_z}
+use Rattle.kpn_lang.proofs.Common.{◌^◌, ◌∙◌, ap, arith, w64, to_z, to_z_pos, one_shl}
 use Rattle.std.proofs.Math.Pow.{pow-lt}
-use Rattle.std.proofs.lemmas.Int.{to_z_pos}
-use Rattle.std.proofs.lemmas.Nat.{one_shl}
 use Rattle.kpn_lang.proofs.value.power_of_two.Goals as goal
 
 pub returns : goal.returns

@@ -1,5 +1,4 @@
-use Rattle.kpn_net.specs.Tables.{program_of}
-use Rattle.kpn_machine.specs.Machine.{frame_in}
+use Rattle.kpn_machine.proofs.Common.{program_of, frame_in}
 use Rattle.kpn_machine.proofs.OneStop.{one_stop}
 use Rattle.kpn_machine.proofs.laws.one_stop_stands.Goals as goal
 

@@ -1,5 +1,4 @@
-use Rattle.std.proofs.Common.{◌≡◌, map}
-use Rattle.kpn_chan.specs.Channel.{kept_journal}
+use Rattle.kpn_machine.proofs.Common.{◌≡◌, map, kept_journal}
 use Rattle.kpn_machine.proofs.machine.moved_journals.Given as goal
 
 abbrev pub invariant-channels : goal.invariant-channels

@@ -1,5 +1,4 @@
-use Rattle.std.proofs.Common.{◌≡◌, map}
-use Rattle.kpn_machine.specs.Machine.{all_put}
+use Rattle.kpn_machine.proofs.Common.{◌≡◌, map, all_put}
 use Rattle.kpn_machine.proofs.machine.moved_written.Given as goal
 
 abbrev pub invariant-channels : goal.invariant-channels

@@ -1,7 +1,4 @@
-use Rattle.std.proofs.Common.{◌≡◌, ◌++◌, length, map, take}
-use Rattle.std.specs.List.{range_with_len}
-use Rattle.kpn_net.specs.Process.{Family}
-use Rattle.kpn_net.specs.Iteration.{put_on}
+use Rattle.kpn_net.proofs.Common.{◌≡◌, ◌++◌, length, map, take, range_with_len, Family, put_on}
 use Rattle.kpn_net.proofs.iteration.append.Given as goal
 
 abbrev pub invariant-loop-said : goal.invariant-loop-said

@@ -1,7 +1,4 @@
-use Rattle.std.proofs.Common.{◌≡◌, ◌<◌, ◌+◌, true, false, length, ap, sym, ◌∙◌, arith}
-use Rattle.std.proofs.lemmas.List.Sums.{count_by_more_yes, count_by_more_no}
-use Rattle.kpn_net.specs.Tables.{channel_at, is_source}
-use Rattle.kpn_net.specs.Iteration.{first_round, given_by}
+use Rattle.kpn_net.proofs.Common.{◌≡◌, ◌<◌, ◌+◌, true, false, length, ap, sym, ◌∙◌, arith, count_by_more_yes, count_by_more_no, channel_at, is_source, first_round, given_by}
 use Rattle.kpn_net.proofs.RoundLemmas.{one_more, first-source, first-other, source_below, copied}
 use Rattle.kpn_net.proofs.iteration.first.Goals.{then-is_source+in_ok-copy+in_ok-push, else-is_source+in_ok-push-2}
 use Rattle.kpn_net.proofs.iteration.first.Goals as goal

@@ -1,7 +1,4 @@
-use Rattle.std.proofs.Common.{◌≡◌, map, take, count_by}
-use Rattle.std.specs.List.{range_with_len}
-use Rattle.kpn_net.specs.Tables.{is_source}
-use Rattle.kpn_net.specs.Iteration.{first_round, given_by}
+use Rattle.kpn_net.proofs.Common.{◌≡◌, map, take, count_by, range_with_len, is_source, first_round, given_by}
 use Rattle.kpn_net.proofs.iteration.first.Given as goal
 
 abbrev pub invariant-loop-c : goal.invariant-loop-c

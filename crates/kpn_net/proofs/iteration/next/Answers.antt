@@ -1,6 +1,4 @@
-use Rattle.std.proofs.Common.{◌≡◌, ◌++◌, length, sym, ap, ◌∙◌, arith}
-use Rattle.std.proofs.lemmas.List.{take_at}
-use Rattle.kpn_net.specs.Iteration.{first_round, given_by}
+use Rattle.kpn_net.proofs.Common.{◌≡◌, ◌++◌, length, sym, ap, ◌∙◌, arith, take_at, first_round, given_by}
 use Rattle.kpn_net.proofs.RoundLemmas.{put_by_first, family_of, lists_of-family_of, length-lists_of, one_process_more, all_processes}
 use Rattle.kpn_net.proofs.iteration.next.Goals as goal
 

@@ -1,6 +1,4 @@
-use Rattle.std.proofs.Common.{◌≡◌, ◌++◌}
-use Rattle.kpn_net.specs.Process.{Family}
-use Rattle.kpn_net.specs.Iteration.{first_round, given_by, lists_of}
+use Rattle.kpn_net.proofs.Common.{◌≡◌, ◌++◌, Family, first_round, given_by, lists_of}
 use Rattle.kpn_net.proofs.RoundLemmas.{put_by_first}
 use Rattle.kpn_net.proofs.iteration.next.Given as goal
 

@@ -1,8 +1,4 @@
-use Rattle.std.proofs.Common.{◌≡◌, ◌++◌, map, length, sym, ap, ◌∙◌}
-use Rattle.std.specs.List.{range_with_len}
-use Rattle.std.proofs.lemmas.Result.{IfOk-weaker}
-use Rattle.kpn_net.specs.Process.{out_of}
-use Rattle.kpn_net.specs.Iteration.{lists_of}
+use Rattle.kpn_net.proofs.Common.{◌≡◌, ◌++◌, map, length, sym, ap, ◌∙◌, range_with_len, IfOk-weaker, out_of, lists_of}
 use Rattle.kpn_net.proofs.Networks.{IsInstance-of}
 use Rattle.kpn_net.proofs.RoundLemmas.{appended}
 use Rattle.kpn_net.proofs.iteration.put_out.Goals as goal

@@ -1,5 +1,4 @@
-use Rattle.std.proofs.Common.{◌≡◌}
-use Rattle.kpn_net.specs.Iteration.{round, given_by, lists_of}
+use Rattle.kpn_net.proofs.Common.{◌≡◌, round, given_by, lists_of}
 use Rattle.kpn_net.proofs.iteration.rounds.Given as goal
 
 abbrev pub invariant-rounds : goal.invariant-rounds

@@ -1,10 +1,4 @@
-use Rattle.std.proofs.Common.{◌≡◌, sym, ap, ◌∙◌, subst, length, map, get_or, []}
-use Rattle.std.proofs.lemmas.List.{length-map}
-use Rattle.std.proofs.lemmas.Result.{IfOk-weaker}
-use Rattle.kpn_lang.specs.Run.{Ran}
-use Rattle.kpn_net.specs.Tables.{instance_at}
-use Rattle.kpn_net.specs.Process.{ran_on}
-use Rattle.kpn_net.specs.Iteration.{NamesOutsBelow}
+use Rattle.kpn_net.proofs.Common.{◌≡◌, sym, ap, ◌∙◌, subst, length, map, get_or, [], length-map, IfOk-weaker, Ran, instance_at, ran_on, NamesOutsBelow}
 use Rattle.kpn_net.proofs.Networks.{IsInstance-of}
 use Rattle.kpn_net.proofs.RoundLemmas.{same_alone, same_lists, NamesOutsBelow-alone}
 use Rattle.kpn_net.proofs.iteration.run_on.Goals as goal

@@ -1,5 +1,4 @@
-use Rattle.std.proofs.Common.{ℕ, ◌≢◌, ◌<◌}
-use Rattle.kpn_parts.specs.Cut.{whole_channel}
+use Rattle.kpn_parts.proofs.Common.{ℕ, ◌≢◌, ◌<◌, whole_channel}
 use Rattle.kpn_parts.proofs.Cuts.{DifferBelow}
 use Rattle.kpn_parts.proofs.cut.are_distinct.Given as goal
 

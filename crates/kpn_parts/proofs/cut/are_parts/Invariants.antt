@@ -1,5 +1,4 @@
-use Rattle.std.proofs.Common.{ℕ, ◌<◌}
-use Rattle.kpn_parts.specs.Cut.{part_at, IsPart}
+use Rattle.kpn_parts.proofs.Common.{ℕ, ◌<◌, part_at, IsPart}
 use Rattle.kpn_parts.proofs.cut.are_parts.Given as goal
 
 abbrev pub invariant-loop-r : goal.invariant-loop-r

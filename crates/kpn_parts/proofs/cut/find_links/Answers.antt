@@ -1,5 +1,4 @@
-use Rattle.std.proofs.Common.{◌≡◌, ◌+◌, ◌≤◌, length, sym, ap, ◌∙◌, subst, rules}
-use Rattle.kpn_parts.specs.Cut.{part_at, IsCutSource}
+use Rattle.kpn_parts.proofs.Common.{◌≡◌, ◌+◌, ◌≤◌, length, sym, ap, ◌∙◌, subst, rules, part_at, IsCutSource}
 use Rattle.kpn_parts.proofs.Cuts.{HaveLinks, links_start, links_past, links_more, links_part, links_all, part_there}
 use Rattle.kpn_parts.proofs.cut.find_links.Goals as goal
 use Rattle.kpn_parts.proofs.cut.find_links.Goals.{then-is_cut_source+in-Some+in_ok-push, else-is_cut_source}

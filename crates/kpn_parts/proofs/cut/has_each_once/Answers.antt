@@ -1,10 +1,6 @@
-use Rattle.std.proofs.Common.{◌≡◌, ◌≤◌, ◌<◌, true, false, length, get_or, replicate, sym, ap, inl, inr, ◌∙◌, subst, rules}
+use Rattle.kpn_parts.proofs.Common.{◌≡◌, ◌≤◌, ◌<◌, true, false, length, get_or, replicate, sym, ap, inl, inr, ◌∙◌, subst, rules, list_any, cases_Bool, both_ways, length-set, length-replicate, part_at, whole_process}
 use Rattle.std.specs.Bool.{beq}
-use Rattle.std.specs.List.{list_any}
-use Rattle.std.proofs.lemmas.Bool.{cases_Bool, both_ways}
 use Rattle.std.proofs.lemmas.List.Folds.{list_any_at}
-use Rattle.std.proofs.lemmas.List.{length-set, length-replicate}
-use Rattle.kpn_parts.specs.Cut.{part_at, whole_process}
 use Rattle.kpn_parts.proofs.Cuts.{AreSeen, seen_start, seen_next, seen_part, seen_once, part_there}
 use Rattle.kpn_parts.proofs.cut.has_each_once.Goals as goal
 

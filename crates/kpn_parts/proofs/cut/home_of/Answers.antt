@@ -1,6 +1,4 @@
-use Rattle.std.proofs.Common.{◌≡◌, ◌≤◌, length, sym, subst, rules}
-use Rattle.kpn_parts.specs.Cut.{part_at}
-use Rattle.kpn_parts.specs.Homes.{IsWrittenIn}
+use Rattle.kpn_parts.proofs.Common.{◌≡◌, ◌≤◌, length, sym, subst, rules, part_at, IsWrittenIn}
 use Rattle.kpn_parts.proofs.Cuts.{part_there}
 use Rattle.kpn_parts.proofs.Homes.{none_start, none_past, none_part, none_at_all}
 use Rattle.kpn_parts.proofs.cut.home_of.Goals as goal

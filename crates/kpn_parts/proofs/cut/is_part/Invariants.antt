@@ -1,5 +1,4 @@
-use Rattle.std.proofs.Common.{ℕ, ◌<◌}
-use Rattle.kpn_parts.specs.Cut.{IsSameProcess}
+use Rattle.kpn_parts.proofs.Common.{ℕ, ◌<◌, IsSameProcess}
 use Rattle.kpn_parts.proofs.cut.is_part.Given as goal
 
 abbrev pub invariant-loop-p : goal.invariant-loop-p

@@ -1,5 +1,4 @@
-use Rattle.std.proofs.Common.{rules}
-use Rattle.kpn_parts.specs.Cut.{IsCut}
+use Rattle.kpn_parts.proofs.Common.{rules, IsCut}
 use Rattle.kpn_parts.proofs.Cuts.{anyway}
 use Rattle.kpn_parts.proofs.cut.links_of.Goals as goal
 

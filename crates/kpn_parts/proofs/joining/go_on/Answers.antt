@@ -1,5 +1,4 @@
-use Rattle.std.proofs.Common.{◌≡◌, ◌<◌, true, false, length, refl, sym, subst, rules}
-use Rattle.kpn_parts.specs.Links.{AreCarried}
+use Rattle.kpn_parts.proofs.Common.{◌≡◌, ◌<◌, true, false, length, refl, sym, subst, rules, AreCarried}
 use Rattle.kpn_parts.proofs.Carrying.{are_fed_at_most}
 use Rattle.kpn_parts.proofs.Merging.{goes_on_start, goes_on_next, still_there}
 use Rattle.kpn_parts.proofs.joining.go_on.Goals as goal

@@ -1,5 +1,4 @@
-use Rattle.std.proofs.Common.{◌≡◌, ◌<◌, length, get_or, rules, sym, subst}
-use Rattle.kpn_parts.specs.Links.{IsJoinOf, UsesAll, ComesInNone, history_at}
+use Rattle.kpn_parts.proofs.Common.{◌≡◌, ◌<◌, length, get_or, rules, sym, subst, IsJoinOf, UsesAll, ComesInNone, history_at}
 use Rattle.kpn_parts.proofs.Merging.{so_far_start, joined_all, comes_in_none}
 use Rattle.kpn_parts.proofs.joining.join.Goals as goal
 

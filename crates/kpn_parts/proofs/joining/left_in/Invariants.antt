@@ -1,5 +1,4 @@
-use Rattle.std.proofs.Common.{ℕ, ◌<◌, ◌≤◌, length, get_or}
-use Rattle.kpn_parts.specs.Links.{history_at}
+use Rattle.kpn_parts.proofs.Common.{ℕ, ◌<◌, ◌≤◌, length, get_or, history_at}
 use Rattle.kpn_parts.proofs.joining.left_in.Given as goal
 
 abbrev pub invariant-loop-r : goal.invariant-loop-r

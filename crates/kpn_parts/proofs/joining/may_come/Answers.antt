@@ -1,5 +1,4 @@
-use Rattle.std.proofs.Common.{◌≡◌, ◌<◌, true, false, length, rules}
-use Rattle.std.proofs.lemmas.Bool.{false≢true}
+use Rattle.kpn_parts.proofs.Common.{◌≡◌, ◌<◌, true, false, length, rules, false≢true}
 use Rattle.kpn_parts.proofs.Carrying.{refused, accepted}
 use Rattle.kpn_parts.proofs.joining.may_come.Goals as goal
 

@@ -1,7 +1,4 @@
-use Rattle.std.proofs.Common.{ℕ, ◌<◌, List, [], ◌∷◌, ◌++◌, get_or}
-use Rattle.kpn_parts.specs.declared.order.PartEvent.{PartEvent}
-use Rattle.kpn_parts.specs.declared.link.PartLink.{PartLink}
-use Rattle.kpn_parts.specs.Links.{IsSentOn, AreCarried}
+use Rattle.kpn_parts.proofs.Common.{ℕ, ◌<◌, List, [], ◌∷◌, ◌++◌, get_or, PartEvent, PartLink, IsSentOn, AreCarried}
 use Rattle.kpn_parts.proofs.joining.may_come.Given as goal
 
 abbrev pub invariant-loop-l : goal.invariant-loop-l

@@ -1,5 +1,4 @@
-use Rattle.std.proofs.Common.{◌++◌, sym, subst}
-use Rattle.kpn_parts.specs.Links.{items_of, IsNext}
+use Rattle.kpn_parts.proofs.Common.{◌++◌, sym, subst, items_of, IsNext}
 use Rattle.kpn_parts.proofs.Carrying.{next_exactly}
 use Rattle.kpn_parts.proofs.joining.takes.Goals as goal
 

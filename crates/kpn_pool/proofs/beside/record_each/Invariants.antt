@@ -1,9 +1,5 @@
 use Rattle.std.proofs.Common.{◌≡◌, map, take, vec_len}
-use Rattle.std.specs.Prelude.{vec_capacity}
-use Rattle.std.specs.List.{sum_by}
-use Rattle.kpn_pool_desk.specs.Seat.{Seat}
-use Rattle.kpn_pool.specs.declared.beside.Worked.{Worked}
-use Rattle.kpn_pool.specs.Causes.{worked_of}
+use Rattle.kpn_pool.proofs.Common.{vec_capacity, sum_by, Seat, Worked, worked_of}
 use Rattle.kpn_pool.proofs.beside.record_each.Given as goal
 
 abbrev pub invariant-seats : goal.invariant-seats

@@ -1,7 +1,5 @@
-use Rattle.std.proofs.Common.{◌≡◌, length, ap, sym, ◌∙◌, subst}
-use Rattle.kpn_net.specs.Tables.{Tables}
+use Rattle.kpn_pool.proofs.Common.{◌≡◌, length, ap, sym, ◌∙◌, subst, Tables, AreFedBelow, AreSourcesClosedBelow}
 use Rattle.kpn_book.specs.Remembering.{Remembers}
-use Rattle.kpn_pool.specs.Fed.{AreFedBelow, AreSourcesClosedBelow}
 use Rattle.kpn_pool.proofs.Concluding.{journals_shown, are_supplied, IsReport-concluded}
 use Rattle.kpn_pool.proofs.ending.conclude.Goals as goal
 

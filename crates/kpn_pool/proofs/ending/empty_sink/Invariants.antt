@@ -1,8 +1,5 @@
-use Rattle.std.proofs.Common.{length}
+use Rattle.kpn_pool.proofs.Common.{length, channel_in, IsBook, KeepsHeld}
 use Rattle.kpn_chan.specs.Channel.{unread}
-use Rattle.kpn_machine.specs.Machine.{channel_in}
-use Rattle.kpn_book.specs.Kept.{IsBook}
-use Rattle.kpn_pool.specs.Ending.{KeepsHeld}
 use Rattle.kpn_pool.proofs.ending.empty_sink.Given as goal
 
 abbrev pub invariant-items : goal.invariant-items

@@ -1,5 +1,4 @@
-use Rattle.std.proofs.Common.{◌≡◌, false, sym, ap, ◌∙◌}
-use Rattle.kpn_net.specs.Tables.{Tables, channel_at, is_source}
+use Rattle.kpn_pool.proofs.Common.{◌≡◌, false, sym, ap, ◌∙◌, Tables, channel_at, is_source}
 use Rattle.kpn_pool.proofs.Feeding.{closed_more}
 use Rattle.kpn_pool.proofs.fed.are_closed.Goals.{else-is_source-via-then-is_source+else-not-is_closed, else-is_source-via-else-is_source}
 use Rattle.kpn_pool.proofs.fed.are_closed.Goals as goal

@@ -1,5 +1,4 @@
-use Rattle.std.proofs.Common.{◌≡◌, false, sym, ap, ◌∙◌}
-use Rattle.kpn_net.specs.Tables.{Tables, channel_at, is_sink}
+use Rattle.kpn_pool.proofs.Common.{◌≡◌, false, sym, ap, ◌∙◌, Tables, channel_at, is_sink}
 use Rattle.kpn_pool.proofs.Feeding.{kept_more}
 use Rattle.kpn_pool.proofs.fed.are_kept.Goals.{else-is_sink-via-then-is_sink+else-is_left, else-is_sink-via-else-is_sink}
 use Rattle.kpn_pool.proofs.fed.are_kept.Goals as goal

@@ -1,10 +1,5 @@
-use Rattle.std.proofs.Common.{◌≡◌, ◌<◌, true, [], length, get_or, sym, ap, ◌∙◌, arith}
-use Rattle.std.proofs.lemmas.List.{get_or_default}
+use Rattle.kpn_pool.proofs.Common.{◌≡◌, ◌<◌, true, [], length, get_or, sym, ap, ◌∙◌, arith, get_or_default, count_by_more_yes, count_by_more_no, channel_at, is_source, given_by, source_below}
 use Rattle.std.proofs.lemmas.Option.{get_or_from_slice_get}
-use Rattle.std.proofs.lemmas.List.Sums.{count_by_more_yes, count_by_more_no}
-use Rattle.kpn_net.specs.Tables.{channel_at, is_source}
-use Rattle.kpn_net.specs.Iteration.{given_by}
-use Rattle.kpn_net.proofs.RoundLemmas.{source_below}
 use Rattle.kpn_pool.proofs.Feeding.{fed_skip, fed_more}
 use Rattle.kpn_pool.proofs.fed.were_fed.Goals.{then-is_source+in-Some+else-not-is, else-is_source}
 use Rattle.kpn_pool.proofs.fed.were_fed.Goals as goal

@@ -1,6 +1,4 @@
-use Rattle.std.proofs.Common.{◌≡◌, count_by, take}
-use Rattle.kpn_net.specs.Tables.{is_source}
-use Rattle.kpn_pool.specs.Fed.{AreFedBelow}
+use Rattle.kpn_pool.proofs.Common.{◌≡◌, count_by, take, is_source, AreFedBelow}
 use Rattle.kpn_pool.proofs.fed.were_fed.Given as goal
 
 abbrev pub invariant-channels : goal.invariant-channels

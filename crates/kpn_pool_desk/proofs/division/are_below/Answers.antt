@@ -1,7 +1,4 @@
-use Rattle.std.proofs.Common.{◌<◌, arith, subst}
-use Rattle.std.specs.List.{All}
-use Rattle.std.proofs.lemmas.List.{take_all}
-use Rattle.std.proofs.lemmas.List.Elements.{All-more}
+use Rattle.kpn_pool_desk.proofs.Common.{◌<◌, arith, subst, All, take_all, All-more}
 use Rattle.kpn_pool_desk.proofs.division.are_below.Goals as goal
 
 pub numbers-init : goal.numbers-init

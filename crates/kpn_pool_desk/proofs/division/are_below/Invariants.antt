@@ -1,5 +1,4 @@
-use Rattle.std.proofs.Common.{◌<◌, take}
-use Rattle.std.specs.List.{All}
+use Rattle.kpn_pool_desk.proofs.Common.{◌<◌, take, All}
 use Rattle.kpn_pool_desk.proofs.division.are_below.Given as goal
 
 abbrev pub invariant-numbers : goal.invariant-numbers

@@ -1,5 +1,4 @@
-use Rattle.std.proofs.Common.{◌≡◌, ◌<◌, true, length, rules}
-use Rattle.kpn_pool_desk.specs.HeldTurns.{Claims}
+use Rattle.kpn_pool_desk.proofs.Common.{◌≡◌, ◌<◌, true, length, rules, Claims}
 use Rattle.kpn_pool_desk.proofs.Batches.{one_more_set}
 use Rattle.kpn_pool_desk.proofs.Seating.{still_with_book}
 use Rattle.kpn_pool_desk.proofs.held_turns.claim_each.Goals as goal

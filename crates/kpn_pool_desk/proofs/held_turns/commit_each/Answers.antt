@@ -1,5 +1,4 @@
-use Rattle.std.proofs.Common.{rules, ◌≡◌, true, get_or, arith, ◌∙◌}
-use Rattle.kpn_pool_desk.specs.HeldTurns.{CommitsOrDrops}
+use Rattle.kpn_pool_desk.proofs.Common.{rules, ◌≡◌, true, get_or, arith, ◌∙◌, CommitsOrDrops}
 use Rattle.kpn_pool_desk.proofs.Batches.{commits_on, one_more}
 use Rattle.kpn_pool_desk.proofs.held_turns.commit_each.Goals as goal
 

@@ -1,6 +1,4 @@
-use Rattle.std.proofs.Common.{◌≡◌, ◌+◌, ◌≤◌, take}
-use Rattle.kpn_pool_desk.specs.Desk.{with_total}
-use Rattle.kpn_pool_desk.specs.HeldTurns.{CommitsOrDrops, InTurn}
+use Rattle.kpn_pool_desk.proofs.Common.{◌≡◌, ◌+◌, ◌≤◌, take, with_total, CommitsOrDrops, InTurn}
 use Rattle.kpn_pool_desk.proofs.held_turns.commit_each.Given as goal
 
 abbrev pub invariant-turns : goal.invariant-turns

@@ -1,5 +1,4 @@
-use Rattle.std.proofs.Common.{rules, ◌≡◌, get_or}
-use Rattle.kpn_pool_desk.specs.HeldTurns.{PutsBack}
+use Rattle.kpn_pool_desk.proofs.Common.{rules, ◌≡◌, get_or, PutsBack}
 use Rattle.kpn_pool_desk.proofs.Batches.{one_more}
 use Rattle.kpn_pool_desk.proofs.Seating.{still_with_book}
 use Rattle.kpn_pool_desk.proofs.held_turns.put_back_each.Goals as goal

@@ -1,6 +1,4 @@
-use Rattle.std.proofs.Common.{◌≡◌, take}
-use Rattle.kpn_pool_desk.specs.Desk.{with_book}
-use Rattle.kpn_pool_desk.specs.HeldTurns.{PutsBack, InTurn}
+use Rattle.kpn_pool_desk.proofs.Common.{◌≡◌, take, with_book, PutsBack, InTurn}
 use Rattle.kpn_pool_desk.proofs.held_turns.put_back_each.Given as goal
 
 abbrev pub invariant-turns : goal.invariant-turns

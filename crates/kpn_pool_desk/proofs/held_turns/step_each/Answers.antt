@@ -1,10 +1,5 @@
 -- A step leaves the process of its turn as it was, and the gate answers for this process.
-use Rattle.std.proofs.Common.{◌≡◌, ◌<◌, length, take, Some, sym, ap, ◌∙◌, subst, rules, arith}
-use Rattle.std.specs.Prelude.{slice_get}
-use Rattle.std.specs.List.{All}
-use Rattle.std.proofs.lemmas.List.{take-set}
-use Rattle.kpn_pool_desk.specs.HeldTurns.{StepsWithin, claimed_by}
-use Rattle.kpn_pool_desk.specs.Gate.{LetsThrough}
+use Rattle.kpn_pool_desk.proofs.Common.{◌≡◌, ◌<◌, length, take, Some, sym, ap, ◌∙◌, subst, rules, arith, slice_get, All, take-set, StepsWithin, claimed_by, LetsThrough}
 use Rattle.kpn_pool_desk.proofs.Batches.{all_more_set, claimed_by-set, claimed_at, through_more, stopped_at, let_all}
 use Rattle.kpn_pool_desk.proofs.held_turns.step_each.Goals as goal
 

@@ -1,10 +1,6 @@
 -- The turns are those of the same processes, and the gate has let the first ones through, whose steps are within the
 -- quota.
-use Rattle.std.proofs.Common.{◌≡◌, ℕ, ◌<◌, Some, take}
-use Rattle.std.specs.Prelude.{slice_get}
-use Rattle.std.specs.List.{All}
-use Rattle.kpn_pool_desk.specs.declared.gate.Go.TheVariants.{On}
-use Rattle.kpn_pool_desk.specs.HeldTurns.{StepsWithin, claimed_by}
+use Rattle.kpn_pool_desk.proofs.Common.{◌≡◌, ℕ, ◌<◌, Some, take, slice_get, All, On, StepsWithin, claimed_by}
 use Rattle.kpn_pool_desk.proofs.held_turns.step_each.Given as goal
 
 abbrev pub invariant-turns : goal.invariant-turns

@@ -1,5 +1,4 @@
-use Rattle.kpn_net.specs.Tables.{channel_at, is_source, is_sink}
-use Rattle.kpn_pool_desk.specs.OutsideSeats.{EndSeat}
+use Rattle.kpn_pool_desk.proofs.Common.{channel_at, is_source, is_sink, EndSeat}
 use Rattle.kpn_pool_desk.proofs.Seating.{one_more}
 use Rattle.kpn_pool_desk.proofs.opening.end_seats.Goals as goal
 

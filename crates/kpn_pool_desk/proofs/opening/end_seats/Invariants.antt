@@ -1,7 +1,4 @@
-use Rattle.std.proofs.Common.{◌≡◌, map}
-use Rattle.std.specs.List.{filter, range_with_len}
-use Rattle.kpn_net.specs.Tables.{channel_at, is_source, is_sink}
-use Rattle.kpn_pool_desk.specs.OutsideSeats.{EndSeat, new_end}
+use Rattle.kpn_pool_desk.proofs.Common.{◌≡◌, map, filter, range_with_len, channel_at, is_source, is_sink, EndSeat, new_end}
 use Rattle.kpn_pool_desk.proofs.opening.end_seats.Given as goal
 
 abbrev pub invariant-loop-c : goal.invariant-loop-c

@@ -1,7 +1,4 @@
-use Rattle.std.proofs.Common.{◌≡◌, ◌<◌, length, refl, subst, arith, rules}
-use Rattle.std.proofs.lemmas.Option.{slice_get-get_or}
-use Rattle.std.proofs.lemmas.Result.{err_from_is_err_and}
-use Rattle.kpn_pool_desk.specs.OutsideSeats.{TakeInTurn}
+use Rattle.kpn_pool_desk.proofs.Common.{◌≡◌, ◌<◌, length, refl, subst, arith, rules, slice_get-get_or, err_from_is_err_and, TakeInTurn}
 use Rattle.kpn_pool_desk.proofs.Seating.{none_taken, taken_at, same_count, sink_more, all_sinks, refused_at, still_with_book}
 use Rattle.kpn_pool_desk.proofs.Recording.{turn_more, turned_within}
 use Rattle.kpn_pool_desk.proofs.outside_seats.take_from_each.Goals as goal

@@ -1,6 +1,4 @@
-use Rattle.std.proofs.Common.{◌≡◌, take}
-use Rattle.kpn_pool_desk.specs.Desk.{with_book}
-use Rattle.kpn_pool_desk.specs.OutsideSeats.{HaveTaken, AreSinks, TakeInTurn}
+use Rattle.kpn_pool_desk.proofs.Common.{◌≡◌, take, with_book, HaveTaken, AreSinks, TakeInTurn}
 use Rattle.kpn_pool_desk.proofs.outside_seats.take_from_each.Given as goal
 
 abbrev pub invariant-seats : goal.invariant-seats

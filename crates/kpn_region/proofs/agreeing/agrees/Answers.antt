@@ -1,5 +1,4 @@
-use Rattle.std.proofs.Common.{◌≡◌, true, length, take, sym, ap, ◌∙◌, subst, rules}
-use Rattle.kpn_chan.specs.Channel.{readable}
+use Rattle.kpn_region.proofs.Common.{◌≡◌, true, length, take, sym, ap, ◌∙◌, subst, rules, readable}
 use Rattle.kpn_region.proofs.Comparing.{agrees_if, rest_if}
 use Rattle.kpn_region.proofs.agreeing.agrees.Goals as goal
 

@@ -1,8 +1,5 @@
-use Rattle.std.proofs.Common.{◌≡◌, ◌<◌, ◌≤◌, length, take, sym, ◌∙◌, subst, arith, rules}
-use Rattle.std.proofs.lemmas.Bool.{both_ways}
+use Rattle.kpn_region.proofs.Common.{◌≡◌, ◌<◌, ◌≤◌, length, take, sym, ◌∙◌, subst, arith, rules, both_ways, Decides-int_eq, readable}
 use Rattle.std.proofs.lemmas.Slice.Eq.{slice_eq-Decides}
-use Rattle.std.proofs.lemmas.Bool.Decides.{Decides-int_eq}
-use Rattle.kpn_chan.specs.Channel.{readable}
 use Rattle.kpn_region.proofs.Comparing.{begins_first, begins_both, begins_front, begins_back}
 use Rattle.kpn_region.proofs.agreeing.begins_with.Goals as goal
 

@@ -1,5 +1,4 @@
-use Rattle.std.proofs.Common.{◌≡◌, ℕ, ◌<◌, ◌≤◌, false, replicate, take, length, get_or, None}
-use Rattle.kpn_machine.specs.Machine.{no_frame}
+use Rattle.kpn_region.proofs.Common.{◌≡◌, ℕ, ◌<◌, ◌≤◌, false, replicate, take, length, get_or, None, no_frame}
 use Rattle.kpn_region.proofs.batch.clear_processes.Given as goal
 
 abbrev pub invariant-processes : goal.invariant-processes

@@ -1,5 +1,4 @@
-use Rattle.std.proofs.Common.{◌≡◌, replicate, take, length}
-use Rattle.kpn_region.specs.Local.{no_side}
+use Rattle.kpn_region.proofs.Common.{◌≡◌, replicate, take, length, no_side}
 use Rattle.kpn_region.proofs.batch.clear_sides.Given as goal
 
 abbrev pub invariant-sides : goal.invariant-sides

@@ -1,5 +1,4 @@
-use Rattle.std.proofs.Common.{◌≡◌, replicate}
-use Rattle.kpn_region.specs.Local.{no_side}
+use Rattle.kpn_region.proofs.Common.{◌≡◌, replicate, no_side}
 use Rattle.kpn_region.proofs.batch.no_sides.Given as goal
 
 abbrev pub invariant-loop-c : goal.invariant-loop-c

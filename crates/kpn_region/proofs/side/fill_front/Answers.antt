@@ -1,6 +1,4 @@
-use Rattle.std.proofs.Common.{◌≡◌, ◌+◌, ◌-◌, ◌≤◌, true, cond, List, ℤ, ◌++◌, length, take, is_ok, vec_len, vec_capacity, ap, ◌∙◌, arith, rules}
-use Rattle.std.proofs.lemmas.List.{length-take}
-use Rattle.kpn_chan.specs.Channel.{readable}
+use Rattle.kpn_region.proofs.Common.{◌≡◌, ◌+◌, ◌-◌, ◌≤◌, true, cond, List, ℤ, ◌++◌, length, take, is_ok, vec_len, vec_capacity, ap, ◌∙◌, arith, rules, length-take, readable}
 use Rattle.kpn_region.proofs.Comparing.{first_of_both}
 use Rattle.kpn_region.proofs.side.fill_front.Goals as goal
 

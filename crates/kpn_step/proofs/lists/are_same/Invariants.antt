@@ -1,5 +1,4 @@
-use Rattle.std.proofs.Common.{◌≡◌, true, length, take}
-use Rattle.std.specs.Cmp.Lexicographic.{pointwise}
+use Rattle.kpn_step.proofs.Common.{◌≡◌, true, length, take, pointwise}
 use Rattle.kpn_step.proofs.lists.are_same.Given as goal
 
 abbrev pub invariant-items : goal.invariant-items

@@ -1,6 +1,5 @@
 -- The walk goes on by a code, or by a step of the frame, or stops there.
-use Rattle.std.proofs.Common.{arith, subst}
-use Rattle.kpn_step.specs.Standing.{WentOrStopped}
+use Rattle.kpn_step.proofs.Common.{arith, subst, WentOrStopped}
 use Rattle.kpn_step.proofs.Walking.{Walking-start, Walking-on, Walking-step, Walked-there, Walked-here, fits_here}
 use Rattle.kpn_step.proofs.walk.walk.Goals as goal
 

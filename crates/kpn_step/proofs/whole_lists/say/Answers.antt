@@ -1,6 +1,5 @@
 -- A read is at an in port of the program, which has a list, and it says the next item there.
-use Rattle.std.proofs.Common.{◌≡◌, Some, to_z, of_z, w64, rules, ap, ◌∙◌, arith}
-use Rattle.kpn_lang.specs.Lists.{remaining}
+use Rattle.kpn_step.proofs.Common.{◌≡◌, Some, to_z, of_z, w64, rules, ap, ◌∙◌, arith, remaining}
 use Rattle.kpn_step.proofs.MayStep.{read_port}
 use Rattle.kpn_step.proofs.Taking.{Speaks-got, written_back}
 use Rattle.kpn_step.proofs.whole_lists.say.Goals as goal

@@ -1,6 +1,5 @@
 -- The channel is no source, or it is closed.
-use Rattle.std.proofs.Common.{ap, sym, ◌∙◌}
-use Rattle.kpn_net.specs.Tables.{Tables, channel_at, is_source}
+use Rattle.kpn_stream.proofs.Common.{ap, sym, ◌∙◌, Tables, channel_at, is_source}
 use Rattle.kpn_stream.proofs.Closes.{no_source_more, one_more}
 use Rattle.kpn_stream.proofs.closing.close.Goals as goal
 

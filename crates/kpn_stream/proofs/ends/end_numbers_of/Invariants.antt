@@ -1,6 +1,4 @@
-use Rattle.std.proofs.Common.{◌≡◌}
-use Rattle.std.specs.List.{filter, range_with_len}
-use Rattle.kpn_net.specs.Tables.{channel_at, is_source, is_sink}
+use Rattle.kpn_stream.proofs.Common.{◌≡◌, filter, range_with_len, channel_at, is_source, is_sink}
 use Rattle.kpn_stream.proofs.ends.end_numbers_of.Given as goal
 
 abbrev pub invariant-channels : goal.invariant-channels

@@ -1,5 +1,4 @@
-use Rattle.std.proofs.Common.{rules, ◌<◌, length}
-use Rattle.kpn_net.specs.Tables.{is_source}
+use Rattle.kpn_stream.proofs.Common.{rules, ◌<◌, length, is_source}
 use Rattle.kpn_stream.proofs.Handling.{listed}
 use Rattle.kpn_stream.proofs.looking.are_several.Goals as goal
 

@@ -1,7 +1,4 @@
-use Rattle.std.proofs.Common.{rules, ℕ, List, ◌≡◌, ◌<◌, length, None, sym, ap, ◌∙◌, subst}
-use Rattle.kpn_net.specs.Tables.{is_source}
-use Rattle.kpn_stream.specs.Ending.{end_numbers}
-use Rattle.kpn_stream.specs.Streaming.{StreamGoesOn, IsStepless}
+use Rattle.kpn_stream.proofs.Common.{rules, ℕ, List, ◌≡◌, ◌<◌, length, None, sym, ap, ◌∙◌, subst, is_source, end_numbers, StreamGoesOn, IsStepless}
 use Rattle.kpn_stream.proofs.Going.{none_of, goes_on-refl, goes_on-trans, serves_goes_on, serves_on, serves_taken, reads_at_hand, at_hand_taken}
 use Rattle.kpn_stream.proofs.Handling.{listed}
 use Rattle.kpn_stream.proofs.Seeing.{stepless-refl, stepless-trans, stepless_serves, stepless_at_hand}

@@ -1,7 +1,4 @@
-use Rattle.std.proofs.Common.{◌≡◌, None}
-use Rattle.kpn_net.specs.Tables.{is_source}
-use Rattle.kpn_stream.specs.Ending.{end_numbers, AreTaken}
-use Rattle.kpn_stream.specs.Streaming.{StreamGoesOn, IsStepless}
+use Rattle.kpn_stream.proofs.Common.{◌≡◌, None, is_source, end_numbers, AreTaken, StreamGoesOn, IsStepless}
 use Rattle.kpn_stream.proofs.looking.end_stretch.Given as goal
 
 abbrev pub invariant-sources : goal.invariant-sources

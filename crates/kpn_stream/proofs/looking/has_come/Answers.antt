@@ -1,5 +1,4 @@
-use Rattle.std.proofs.lemmas.Bool.{false≢true}
-use Rattle.kpn_stream.specs.Devices.{not_yet, once_more}
+use Rattle.kpn_stream.proofs.Common.{false≢true, not_yet, once_more}
 use Rattle.kpn_stream.proofs.looking.has_come.Goals as goal
 
 pub returns-then-is_at_hand-clause-looked : goal.returns-then-is_at_hand-clause-looked

@@ -1,6 +1,4 @@
-use Rattle.std.proofs.Common.{rules, ◌<◌, length, IfSome, sym, ◌∙◌, subst}
-use Rattle.kpn_stream.specs.Devices.{MayRead, not_yet}
-use Rattle.kpn_net.specs.Tables.{is_source}
+use Rattle.kpn_stream.proofs.Common.{rules, ◌<◌, length, IfSome, sym, ◌∙◌, subst, MayRead, not_yet, is_source}
 use Rattle.kpn_stream.proofs.Handling.{listed}
 use Rattle.kpn_stream.proofs.Looks.{looked-trans, or_this, at_hand_now, unknown_yet}
 use Rattle.kpn_stream.proofs.looking.look_around.Goals as goal

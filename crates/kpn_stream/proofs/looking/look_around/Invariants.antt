@@ -1,5 +1,4 @@
-use Rattle.std.proofs.Common.{IfSome}
-use Rattle.kpn_stream.specs.Devices.{MayRead, AreLookedAt}
+use Rattle.kpn_stream.proofs.Common.{IfSome, MayRead, AreLookedAt}
 use Rattle.kpn_stream.proofs.looking.look_around.Given as goal
 
 abbrev pub invariant-sources : goal.invariant-sources

@@ -1,7 +1,4 @@
-use Rattle.std.proofs.Common.{refl, inl}
-use Rattle.kpn_book.proofs.Committing.{source_there}
-use Rattle.kpn_stream.specs.Devices.{not_yet}
-use Rattle.kpn_stream.specs.Streaming.{not_read, is_read}
+use Rattle.kpn_stream.proofs.Common.{refl, inl, source_there, not_yet, not_read, is_read}
 use Rattle.kpn_stream.proofs.looking.read_at_hand.Goals as goal
 
 pub returns-then-not-is_due : goal.returns-then-not-is_due

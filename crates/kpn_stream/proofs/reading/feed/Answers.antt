@@ -1,8 +1,6 @@
 use Rattle.std.proofs.Common.{◌≡◌, [], ◌∷◌, ◌++◌, rules, subst, w64, SFits}
-use Rattle.std.proofs.lemmas.Int.{to_z-of_z}
+use Rattle.kpn_stream.proofs.Common.{to_z-of_z, Appends, happens_alone}
 use Rattle.kpn_history.specs.declared.event.Event.TheVariants as event
-use Rattle.kpn_book.specs.Appending.{Appends}
-use Rattle.kpn_book.proofs.Happening.{happens_alone}
 use Rattle.kpn_stream.proofs.reading.feed.Goals as goal
 
 pub returns-in-Ok-clause-fed : goal.returns-in-Ok-clause-fed

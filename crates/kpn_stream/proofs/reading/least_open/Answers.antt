@@ -1,7 +1,4 @@
-use Rattle.std.proofs.Common.{rules, ◌<◌, ◌≤◌, length}
-use Rattle.kpn_net.specs.Tables.{is_source}
-use Rattle.kpn_book.proofs.Committing.{source_there}
-use Rattle.kpn_stream.specs.Ending.{IsUnwanted}
+use Rattle.kpn_stream.proofs.Common.{rules, ◌<◌, ◌≤◌, length, is_source, source_there, IsUnwanted}
 use Rattle.kpn_stream.proofs.Handling.{listed, one_more_end, all_ends}
 use Rattle.kpn_stream.proofs.reading.least_open.Goals as goal
 

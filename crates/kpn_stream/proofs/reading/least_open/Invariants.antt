@@ -1,5 +1,4 @@
-use Rattle.std.proofs.Common.{ℕ, ◌<◌, get_or}
-use Rattle.kpn_stream.specs.Ending.{IsUnwanted}
+use Rattle.kpn_stream.proofs.Common.{ℕ, ◌<◌, get_or, IsUnwanted}
 use Rattle.kpn_stream.proofs.reading.least_open.Given as goal
 
 abbrev pub invariant-sources : goal.invariant-sources

@@ -1,7 +1,5 @@
-use Rattle.std.proofs.Common.{rules, Ok, Err, Some, None, subst, w64, SFits, IfNone}
-use Rattle.std.proofs.lemmas.Int.{to_z-of_z}
+use Rattle.kpn_stream.proofs.Common.{rules, Ok, Err, Some, None, subst, w64, SFits, IfNone, to_z-of_z, Happens}
 use Rattle.kpn_history.specs.declared.event.Event.TheVariants as event
-use Rattle.kpn_book.specs.Appending.{Happens}
 use Rattle.kpn_stream.proofs.Batches.{item_due, fed_once, closed_once}
 use Rattle.kpn_stream.proofs.Handling.{reads_item, reads_end, reads_fault}
 use Rattle.kpn_stream.proofs.reading.read.Goals as goal

@@ -1,5 +1,4 @@
-use Rattle.std.proofs.Common.{sym, subst, ◌∙◌}
-use Rattle.kpn_stream.specs.Streaming.{ReadsInTurn, none_yet_read, once_more_read}
+use Rattle.kpn_stream.proofs.Common.{sym, subst, ◌∙◌, ReadsInTurn, none_yet_read, once_more_read}
 use Rattle.kpn_stream.proofs.Batches.{in_turn}
 use Rattle.kpn_stream.proofs.Going.{none_of}
 use Rattle.kpn_stream.proofs.reading.read_in_turn.Goals as goal

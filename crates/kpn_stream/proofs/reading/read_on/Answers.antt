@@ -1,9 +1,6 @@
 use Rattle.std.proofs.Common.{rules, ◌≡◌, ◌<◌, ◌∷◌, ◌++◌, [], ◌∙◌, sym, subst, IfNone, w64, SFits}
-use Rattle.std.proofs.lemmas.Int.{to_z-of_z}
+use Rattle.kpn_stream.proofs.Common.{to_z-of_z, Happens, MOST_AT_ONCE, ReadsInTurn, none_yet_read}
 use Rattle.kpn_history.specs.declared.event.Event.TheVariants as event
-use Rattle.kpn_book.specs.Appending.{Happens}
-use Rattle.kpn_stream.specs.declared.reading.TheConstants.{MOST_AT_ONCE}
-use Rattle.kpn_stream.specs.Streaming.{ReadsInTurn, none_yet_read}
 use Rattle.kpn_stream.proofs.Batches.{one_more_read, read_then}
 use Rattle.kpn_stream.proofs.Going.{none_of}
 use Rattle.kpn_stream.proofs.reading.read_on.Goals as goal

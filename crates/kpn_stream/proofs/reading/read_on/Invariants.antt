@@ -1,6 +1,5 @@
-use Rattle.kpn_stream.specs.Streaming.{ReadsInTurn, WasRead}
+use Rattle.kpn_stream.proofs.Common.{ReadsInTurn, WasRead, None}
 use Rattle.kpn_stream.proofs.reading.read_on.Given as goal
-use Rattle.std.proofs.Common.{None}
 
 abbrev pub invariant-items : goal.invariant-items
 invariant-items g l = record {

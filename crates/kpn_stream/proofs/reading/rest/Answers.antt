@@ -1,6 +1,4 @@
-use Rattle.std.proofs.Common.{sym, ap, ◌∙◌}
-use Rattle.kpn_net.specs.Tables.{is_source}
-use Rattle.kpn_stream.specs.Ending.{end_numbers}
+use Rattle.kpn_stream.proofs.Common.{sym, ap, ◌∙◌, is_source, end_numbers}
 use Rattle.kpn_stream.proofs.Going.{none_of, serves_on, serves_taken, serves_ending}
 use Rattle.kpn_stream.proofs.reading.rest.Goals as goal
 

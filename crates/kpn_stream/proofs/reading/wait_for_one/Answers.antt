@@ -1,6 +1,4 @@
-use Rattle.std.proofs.Common.{None, sym, ap, ◌∙◌}
-use Rattle.kpn_net.specs.Tables.{is_source}
-use Rattle.kpn_stream.specs.Ending.{end_numbers}
+use Rattle.kpn_stream.proofs.Common.{None, sym, ap, ◌∙◌, is_source, end_numbers}
 use Rattle.kpn_stream.proofs.Going.{none_of, serves_goes_on, serves_on, serves_taken, reads_flushed}
 use Rattle.kpn_stream.proofs.Seeing.{stepless-trans, stepless_serves, stepless_read}
 use Rattle.kpn_stream.proofs.reading.wait_for_one.Goals as goal

@@ -1,6 +1,4 @@
-use Rattle.std.proofs.Common.{None, true, false, refl, sym, ◌∙◌, subst}
-use Rattle.kpn_stream.specs.Devices.{AreFlushed}
-use Rattle.kpn_stream.specs.Streaming.{serves_them, is_over}
+use Rattle.kpn_stream.proofs.Common.{None, true, false, refl, sym, ◌∙◌, subst, AreFlushed, serves_them, is_over}
 use Rattle.kpn_stream.proofs.Going.{none_of, serves_on, serves_taken}
 use Rattle.kpn_stream.proofs.Seeing.{watches-trans, watches_serves, watches_look}
 use Rattle.kpn_stream.proofs.running.look.Goals as goal

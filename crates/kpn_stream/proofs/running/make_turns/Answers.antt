@@ -1,9 +1,4 @@
-use Rattle.std.proofs.Common.{Some, None, false, sym, ap, ◌∙◌, subst}
-use Rattle.kpn_net.specs.Tables.{is_source, is_sink}
-use Rattle.kpn_stream.specs.Ending.{end_numbers, is_halted}
-use Rattle.kpn_stream.specs.Devices.{is_of_source}
-use Rattle.kpn_stream.specs.Streaming.{StreamGoesOn}
-use Rattle.kpn_stream.specs.Watching.{Watches}
+use Rattle.kpn_stream.proofs.Common.{Some, None, false, sym, ap, ◌∙◌, subst, is_source, is_sink, end_numbers, is_halted, is_of_source, StreamGoesOn, Watches}
 use Rattle.kpn_stream.proofs.Going.{besides-refl, goes_on-refl, goes_on-trans, serves_goes_on}
 use Rattle.kpn_stream.proofs.Seeing.{watches_steps, watches-trans, watches_serves}
 use Rattle.kpn_stream.proofs.running.make_turns.Goals as goal

@@ -1,8 +1,4 @@
-use Rattle.std.proofs.Common.{◌≡◌, false, None}
-use Rattle.kpn_net.specs.Tables.{is_source, is_sink}
-use Rattle.kpn_stream.specs.Ending.{end_numbers, AreTaken}
-use Rattle.kpn_stream.specs.Streaming.{StreamGoesOn}
-use Rattle.kpn_stream.specs.Watching.{Watches}
+use Rattle.kpn_stream.proofs.Common.{◌≡◌, false, None, is_source, is_sink, end_numbers, AreTaken, StreamGoesOn, Watches}
 use Rattle.kpn_stream.proofs.running.make_turns.Given as goal
 
 abbrev pub invariant-turns : goal.invariant-turns

@@ -1,6 +1,5 @@
-use Rattle.std.proofs.Common.{Some, None, refl, subst}
+use Rattle.kpn_stream.proofs.Common.{Some, None, refl, subst, Serves}
 use Rattle.kpn_stream.specs.declared.ending.StreamEnding.TheVariants.{NoMemory}
-use Rattle.kpn_stream.specs.Streaming.{Serves}
 use Rattle.kpn_stream.proofs.Going.{serves_taken, serves_ending}
 use Rattle.kpn_stream.proofs.running.out_of_memory.Goals as goal
 

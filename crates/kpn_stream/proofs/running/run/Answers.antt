@@ -1,7 +1,4 @@
-use Rattle.std.proofs.Common.{Some, None, sym, ap, ◌∙◌, subst}
-use Rattle.kpn_net.specs.Tables.{is_source, is_sink}
-use Rattle.kpn_stream.specs.Ending.{end_numbers, is_halted}
-use Rattle.kpn_stream.specs.Streaming.{Serves}
+use Rattle.kpn_stream.proofs.Common.{Some, None, sym, ap, ◌∙◌, subst, is_source, is_sink, end_numbers, is_halted, Serves}
 use Rattle.kpn_stream.proofs.Going.{serves_goes_on, serves_taken, goes_on-trans}
 use Rattle.kpn_stream.proofs.Moments.{taken_at_start}
 use Rattle.kpn_stream.proofs.Seeing.{watches-trans, watches_serves}

@@ -1,5 +1,4 @@
-use Rattle.kpn_stream.specs.Devices.{is_of_source}
-use Rattle.kpn_stream.specs.Streaming.{serves_them}
+use Rattle.kpn_stream.proofs.Common.{is_of_source, serves_them}
 use Rattle.kpn_stream.proofs.Going.{besides-refl, serves-refl}
 use Rattle.kpn_stream.proofs.Seeing.{watches_steps}
 use Rattle.kpn_stream.proofs.running.show.Goals as goal

@@ -1,7 +1,4 @@
-use Rattle.std.proofs.Common.{Some, None, false, sym, subst, ◌∙◌}
-use Rattle.kpn_stream.specs.Devices.{Fed, at_first, ServedSince, EndsFlushed, Called, at_start}
-use Rattle.kpn_stream.specs.Ending.{failed_source, failed_sink}
-use Rattle.kpn_stream.specs.Watching.{Watched, not_yet_seen}
+use Rattle.kpn_stream.proofs.Common.{Some, None, false, sym, subst, ◌∙◌, Fed, at_first, ServedSince, EndsFlushed, Called, at_start, failed_source, failed_sink, Watched, not_yet_seen}
 use Rattle.kpn_stream.proofs.running.stream.Goals as goal
 
 pub returns-clause-sources : goal.returns-clause-sources

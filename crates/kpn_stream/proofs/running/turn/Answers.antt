@@ -1,7 +1,4 @@
-use Rattle.std.proofs.Common.{Some, None, sym, ap, ◌∙◌, subst}
-use Rattle.kpn_net.specs.Tables.{is_source, is_sink}
-use Rattle.kpn_stream.specs.Ending.{end_numbers, is_halted}
-use Rattle.kpn_stream.specs.Watching.{Watches}
+use Rattle.kpn_stream.proofs.Common.{Some, None, sym, ap, ◌∙◌, subst, is_source, is_sink, end_numbers, is_halted, Watches}
 use Rattle.kpn_stream.proofs.Going.{none_of, serves_on, serves_goes_on, goes_on-trans, taken_then}
 use Rattle.kpn_stream.proofs.Seeing.{watches-trans, watches_serves, watches_taken, watches_shown, watches_reads, goes_on_shown, goes_on_still}
 use Rattle.kpn_stream.proofs.running.turn.Goals as goal

@@ -1,5 +1,4 @@
-use Rattle.std.proofs.Common.{sym, subst}
-use Rattle.kpn_stream.specs.Streaming.{StepsWithinLimits}
+use Rattle.kpn_stream.proofs.Common.{sym, subst, StepsWithinLimits}
 use Rattle.kpn_stream.proofs.Going.{stepped-refl}
 use Rattle.kpn_stream.proofs.stepping.step_stretch.Goals as goal
 

@@ -1,6 +1,4 @@
-use Rattle.std.proofs.Common.{rules, ◌≡◌, ◌<◌, ◌≤◌, true, length, sym, ◌∙◌}
-use Rattle.kpn_net.specs.Tables.{is_sink}
-use Rattle.kpn_history.specs.Channels.{is_left}
+use Rattle.kpn_stream.proofs.Common.{rules, ◌≡◌, ◌<◌, ◌≤◌, true, length, sym, ◌∙◌, is_sink, is_left}
 use Rattle.kpn_book.proofs.Ends.{sink_there}
 use Rattle.kpn_stream.proofs.Handling.{listed, one_more_end, all_ends}
 use Rattle.kpn_stream.proofs.Moments.{left_if_retired}

@@ -1,5 +1,4 @@
-use Rattle.std.proofs.Common.{◌≡◌, ℕ, ◌<◌, true, get_or}
-use Rattle.kpn_history.specs.Channels.{is_left}
+use Rattle.kpn_stream.proofs.Common.{◌≡◌, ℕ, ◌<◌, true, get_or, is_left}
 use Rattle.kpn_stream.proofs.taking.are_left.Given as goal
 
 abbrev pub invariant-sinks : goal.invariant-sinks

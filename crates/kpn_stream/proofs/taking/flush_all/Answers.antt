@@ -1,9 +1,5 @@
 use Rattle.std.proofs.Common.{rules, ◌≡◌, ◌<◌, ◌≤◌, length, take, take_all, [], ◌∷◌, ◌++◌, None, refl, sym, ap, ◌∙◌, subst}
-use Rattle.std.proofs.lemmas.List.{take_more}
-use Rattle.kpn_net.specs.Tables.{is_sink}
-use Rattle.kpn_stream.specs.Devices.{AreFlushed}
-use Rattle.kpn_stream.specs.Ending.{end_numbers}
-use Rattle.kpn_stream.specs.Streaming.{Serves}
+use Rattle.kpn_stream.proofs.Common.{take_more, is_sink, AreFlushed, end_numbers, Serves}
 use Rattle.kpn_stream.proofs.Going.{none_of, serves-refl, serves-trans, flushed_more}
 use Rattle.kpn_stream.proofs.Handling.{listed}
 use Rattle.kpn_stream.proofs.taking.flush_all.Goals as goal

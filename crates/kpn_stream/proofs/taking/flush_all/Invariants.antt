@@ -1,8 +1,4 @@
-use Rattle.std.proofs.Common.{◌≡◌, take, None}
-use Rattle.kpn_net.specs.Tables.{is_sink}
-use Rattle.kpn_stream.specs.Devices.{AreFlushed}
-use Rattle.kpn_stream.specs.Ending.{end_numbers}
-use Rattle.kpn_stream.specs.Streaming.{Serves}
+use Rattle.kpn_stream.proofs.Common.{◌≡◌, take, None, is_sink, AreFlushed, end_numbers, Serves}
 use Rattle.kpn_stream.proofs.taking.flush_all.Given as goal
 
 abbrev pub invariant-sinks : goal.invariant-sinks

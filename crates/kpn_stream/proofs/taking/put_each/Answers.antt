@@ -1,14 +1,6 @@
-use Rattle.std.proofs.Common.{rules, ◌≡◌, true, Ok, Err, Some, None, sym, ap, ◌∙◌, subst, inl}
-use Rattle.std.proofs.lemmas.Bool.{both_ways}
-use Rattle.kpn_net.specs.Tables.{channel_at, is_sink}
+use Rattle.kpn_stream.proofs.Common.{rules, ◌≡◌, true, Ok, Err, Some, None, sym, ap, ◌∙◌, subst, inl, both_ways, channel_at, is_sink, next_item, channel_in, Happens, happens_tables, SinkFailed, end_numbers}
 use Rattle.kpn_history.specs.declared.event.Event.TheVariants as event
-use Rattle.kpn_chan.specs.Channel.{next_item}
-use Rattle.kpn_machine.specs.Machine.{channel_in}
-use Rattle.kpn_book.specs.Appending.{Happens}
-use Rattle.kpn_book.proofs.Happening.{happens_tables}
 use Rattle.kpn_stream.specs.declared.faults.SinkFault.TheVariants.{NoMemory}
-use Rattle.kpn_stream.specs.declared.ending.StreamEnding.TheVariants.{SinkFailed}
-use Rattle.kpn_stream.specs.Ending.{end_numbers}
 use Rattle.kpn_stream.proofs.Going.{serves-refl, serves-trans}
 use Rattle.kpn_stream.proofs.Handling.{if_done, if_refused, serves_item, serves_in_vain, serves_not, handled_taken}
 use Rattle.kpn_stream.proofs.Moments.{taken_if_none, some_unread, less_unread}

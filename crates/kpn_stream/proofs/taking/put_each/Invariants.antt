@@ -1,8 +1,4 @@
-use Rattle.std.proofs.Common.{◌≡◌, length, true, None}
-use Rattle.kpn_net.specs.Tables.{channel_at, is_sink}
-use Rattle.kpn_history.specs.Channels.{unread_on}
-use Rattle.kpn_stream.specs.Ending.{end_numbers}
-use Rattle.kpn_stream.specs.Streaming.{Serves}
+use Rattle.kpn_stream.proofs.Common.{◌≡◌, length, true, None, channel_at, is_sink, unread_on, end_numbers, Serves}
 use Rattle.kpn_stream.proofs.taking.put_each.Given as goal
 
 abbrev pub invariant-items : goal.invariant-items

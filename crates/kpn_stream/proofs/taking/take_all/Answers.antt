@@ -1,8 +1,5 @@
-use Rattle.std.proofs.Common.{rules, ◌≡◌, ◌<◌, ◌≤◌, length, None, sym, ap, ◌∙◌, subst, arith}
-use Rattle.kpn_net.specs.Tables.{is_sink}
+use Rattle.kpn_stream.proofs.Common.{rules, ◌≡◌, ◌<◌, ◌≤◌, length, None, sym, ap, ◌∙◌, subst, arith, is_sink, end_numbers, IsSinkTaken, Serves}
 use Rattle.kpn_book.proofs.Ends.{sink_there}
-use Rattle.kpn_stream.specs.Ending.{end_numbers, IsSinkTaken}
-use Rattle.kpn_stream.specs.Streaming.{Serves}
 use Rattle.kpn_stream.proofs.Going.{none_of, serves-refl, serves-trans}
 use Rattle.kpn_stream.proofs.Handling.{listed, one_more_end, all_ends}
 use Rattle.kpn_stream.proofs.taking.take_all.Goals as goal

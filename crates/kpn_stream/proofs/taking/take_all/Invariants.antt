@@ -1,7 +1,4 @@
-use Rattle.std.proofs.Common.{◌≡◌, ℕ, ◌<◌, get_or, None}
-use Rattle.kpn_net.specs.Tables.{is_sink}
-use Rattle.kpn_stream.specs.Ending.{end_numbers, IsSinkTaken}
-use Rattle.kpn_stream.specs.Streaming.{Serves}
+use Rattle.kpn_stream.proofs.Common.{◌≡◌, ℕ, ◌<◌, get_or, None, is_sink, end_numbers, IsSinkTaken, Serves}
 use Rattle.kpn_stream.proofs.taking.take_all.Given as goal
 
 abbrev pub invariant-each : goal.invariant-each

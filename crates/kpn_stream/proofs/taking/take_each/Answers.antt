@@ -1,8 +1,5 @@
-use Rattle.std.proofs.Common.{◌≡◌, true, sym, ap, ◌∙◌, subst, inl, inr}
-use Rattle.std.proofs.lemmas.Bool.{both_ways}
-use Rattle.kpn_net.specs.Tables.{channel_at, is_sink}
+use Rattle.kpn_stream.proofs.Common.{◌≡◌, true, sym, ap, ◌∙◌, subst, inl, inr, both_ways, channel_at, is_sink, end_numbers}
 use Rattle.kpn_book.proofs.Ends.{sink_there}
-use Rattle.kpn_stream.specs.Ending.{end_numbers}
 use Rattle.kpn_stream.proofs.Going.{none_of, serves-trans, serves_on}
 use Rattle.kpn_stream.proofs.taking.take_each.Goals as goal
 

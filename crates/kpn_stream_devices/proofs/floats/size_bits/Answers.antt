@@ -1,7 +1,5 @@
 -- The significand has 24 places at most, or is the next power of two.
-use Rattle.std.proofs.Common.{◌≡◌, ◌≤◌, ◌^◌, ◌-◌, ◌*◌, ◌<◌, ◌∙◌, ℕ, ap, subst, sym, arith, rules}
-use Rattle.std.specs.Int.Count.{count_leading_zeros}
-use Rattle.kpn_stream_devices.specs.Floats.{rounded}
+use Rattle.kpn_stream_devices.proofs.Common.{◌≡◌, ◌≤◌, ◌^◌, ◌-◌, ◌*◌, ◌<◌, ◌∙◌, ℕ, ap, subst, sym, arith, rules, count_leading_zeros, rounded}
 use Rattle.kpn_stream_devices.proofs.Rounding.{highest_is, significand_fits, shifted_is}
 use Rattle.kpn_stream_devices.proofs.floats.size_bits.Goals as goal
 

@@ -1,6 +1,5 @@
 -- The power of two is in range, or nothing is left.
-use Rattle.std.proofs.Common.{◌≤◌, ◌+◌, ◌^◌, ◌-◌, ◌∙◌, ℕ, ap, subst, refl, sym, arith}
-use Rattle.kpn_stream_devices.specs.Floats.{rounded}
+use Rattle.kpn_stream_devices.proofs.Common.{◌≤◌, ◌+◌, ◌^◌, ◌-◌, ◌∙◌, ℕ, ap, subst, refl, sym, arith, rounded}
 use Rattle.kpn_stream_devices.proofs.Rounding.{size_is, small_is, scaled_up, scaled_down, scaled_none, scaled_large, kept_is}
 use Rattle.kpn_stream_devices.proofs.floats.size_of.Goals as goal
 

@@ -1,6 +1,5 @@
 -- The chunk tells, or those after it.
-use Rattle.std.proofs.Common.{◌-◌, ◌∙◌, ap, sym}
-use Rattle.kpn_stream_devices.specs.Head.{chunks_after, chunks_from}
+use Rattle.kpn_stream_devices.proofs.Common.{◌-◌, ◌∙◌, ap, sym, chunks_after, chunks_from}
 use Rattle.kpn_stream_devices.proofs.Heads.{step_is}
 use Rattle.kpn_stream_devices.proofs.head.+chunks_from.Goals as goal
 

@@ -1,7 +1,6 @@
 -- The bytes tell the item.
 use Rattle.std.proofs.Common.{◌≡◌, Option, Some, None, Ok, IfSome, ℤ}
-use Rattle.kpn_stream_devices.specs.SourceInputs.{InputGives}
-use Rattle.kpn_stream_devices.specs.Window.{Window, WindowTells}
+use Rattle.kpn_stream_devices.proofs.Common.{InputGives, Window, WindowTells}
 use Rattle.kpn_stream_devices.proofs.Devices.{told_at_hand}
 use Rattle.kpn_stream_devices.proofs.inputs.item_at_hand.Goals as goal
 

@@ -1,6 +1,5 @@
 -- The name is the one with the number.
-use Rattle.std.proofs.Common.{[], sym, subst, ◌∙◌}
-use Rattle.std.specs.Str.{IsUtf8}
+use Rattle.kpn_text.proofs.Common.{[], sym, subst, ◌∙◌, IsUtf8}
 use Rattle.kpn_text.proofs.document.name_in.Goals as goal
 
 pub text_of-requires : goal.text_of-requires

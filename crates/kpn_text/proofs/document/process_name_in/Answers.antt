@@ -1,8 +1,5 @@
 -- The name is that of the process with the number.
-use Rattle.std.proofs.Common.{List, ℕ, [], sym, ap, subst, ◌∙◌}
-use Rattle.std.specs.Str.{IsUtf8}
-use Rattle.std.proofs.lemmas.List.{get_or-map}
-use Rattle.kpn_text_names.specs.declared.network_names.ProcessNames.{ProcessNames}
+use Rattle.kpn_text.proofs.Common.{List, ℕ, [], sym, ap, subst, ◌∙◌, IsUtf8, get_or-map, ProcessNames}
 use Rattle.kpn_text.proofs.document.process_name_in.Goals as goal
 
 pub text_of-requires : goal.text_of-requires

@@ -1,8 +1,5 @@
 -- The variables are those of the process with the number.
-use Rattle.std.proofs.Common.{List, ℕ, [], sym, ap, ◌∙◌}
-use Rattle.std.proofs.lemmas.List.{get_or-map}
-use Rattle.kpn_text_names.specs.Names.{name_at}
-use Rattle.kpn_text_names.specs.declared.network_names.ProcessNames.{ProcessNames}
+use Rattle.kpn_text.proofs.Common.{List, ℕ, [], sym, ap, ◌∙◌, get_or-map, name_at, ProcessNames}
 use Rattle.kpn_text.proofs.document.variable_in.Goals as goal
 
 pub returns-in-Some : goal.returns-in-Some

@@ -1,6 +1,5 @@
 -- The next name and the next of the others go together.
-use Rattle.std.proofs.Common.{◌++◌, ◌∷◌, [], sym, ap, ◌∙◌, arith}
-use Rattle.kpn_text_names.specs.NetworkNames.{named_row, paired}
+use Rattle.kpn_text.proofs.Common.{◌++◌, ◌∷◌, [], sym, ap, ◌∙◌, arith, named_row, paired}
 use Rattle.kpn_text.proofs.Tables.{pairs_break, pairs_end, pairs_next_at, same_list}
 use Rattle.kpn_text.proofs.names.arrays.Goals as goal
 use Rattle.kpn_text.proofs.names.arrays.Goals.{else-loop-number-test, then-loop-number-test+in_default}

@@ -1,6 +1,5 @@
 -- Table by table.
-use Rattle.std.proofs.Common.{ap, ◌∙◌}
-use Rattle.kpn_text_names.specs.NetworkNames.{named_table, paired}
+use Rattle.kpn_text.proofs.Common.{ap, ◌∙◌, named_table, paired}
 use Rattle.kpn_text.proofs.Tables.{names_are}
 use Rattle.kpn_text.proofs.names.names_of.Goals as goal
 

@@ -1,6 +1,5 @@
 -- The next names of both tables go together.
-use Rattle.std.proofs.Common.{◌++◌, ◌∷◌, [], sym, ap, ◌∙◌, arith}
-use Rattle.kpn_text_names.specs.NetworkNames.{process_names_in}
+use Rattle.kpn_text.proofs.Common.{◌++◌, ◌∷◌, [], sym, ap, ◌∙◌, arith, process_names_in}
 use Rattle.kpn_text.proofs.Tables.{pairs_break, pairs_end, pairs_next, pairs_start}
 use Rattle.kpn_text.proofs.names.of_processes.Goals as goal
 use Rattle.kpn_text.proofs.names.of_processes.Goals.{else-loop-number-test, then-loop-number-test+in_default}

@@ -1,6 +1,5 @@
 -- The next name and the next of the others go together.
-use Rattle.std.proofs.Common.{◌++◌, ◌∷◌, [], sym, ap, ◌∙◌, arith}
-use Rattle.kpn_text_names.specs.NetworkNames.{named_table, paired}
+use Rattle.kpn_text.proofs.Common.{◌++◌, ◌∷◌, [], sym, ap, ◌∙◌, arith, named_table, paired}
 use Rattle.kpn_text.proofs.Tables.{pairs_break, pairs_end, pairs_next, same_list}
 use Rattle.kpn_text.proofs.names.shared_tables.Goals as goal
 use Rattle.kpn_text.proofs.names.shared_tables.Goals.{else-loop-number-test, then-loop-number-test+in_default}

@@ -1,6 +1,5 @@
 -- What is copied, and what is left of both tables.
-use Rattle.kpn_text_names.specs.NetworkNames.{named_row}
-use Rattle.kpn_text_names.specs.Scope.{behind_arrays}
+use Rattle.kpn_text.proofs.Common.{named_row, behind_arrays}
 use Rattle.kpn_text.proofs.Tables.{Pairs}
 use Rattle.kpn_text.proofs.names.tables.Given as goal
 

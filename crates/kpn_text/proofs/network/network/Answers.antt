@@ -1,7 +1,5 @@
 -- The programs, and then the network.
-use Rattle.std.proofs.Common.{map}
-use Rattle.std.proofs.lemmas.Result.{err_from_is_err_and}
-use Rattle.kpn_text_names.specs.View.{program_seen}
+use Rattle.kpn_text.proofs.Common.{map, err_from_is_err_and, program_seen}
 use Rattle.kpn_text.proofs.Tables.{network_broken, network_made}
 use Rattle.kpn_text.proofs.network.network.Goals as goal
 

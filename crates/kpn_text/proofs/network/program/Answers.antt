@@ -1,6 +1,5 @@
 -- As the program's parts are, with its number.
-use Rattle.kpn_lang.specs.Parts.{first_fault}
-use Rattle.kpn_text_names.specs.View.{program_seen}
+use Rattle.kpn_text.proofs.Common.{first_fault, program_seen}
 use Rattle.kpn_text.proofs.Tables.{program_made, program_broken}
 use Rattle.kpn_text.proofs.network.program.Goals as goal
 

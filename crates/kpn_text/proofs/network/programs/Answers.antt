@@ -1,11 +1,5 @@
 -- The next program is made, or it is the first that breaks a rule.
-use Rattle.std.proofs.Common.{◌≡◌, List, [], ◌∷◌, length, map, refl, sym, ap, ◌∙◌, arith}
-use Rattle.std.proofs.lemmas.Result.{err_from_is_err_and}
-use Rattle.std.specs.Vec.Iter.{into_iter_items}
-use Rattle.kpn_lang.specs.Parts.{Parts, first_fault}
-use Rattle.kpn_text_names.specs.declared.process.ProgramParts.{ProgramParts}
-use Rattle.kpn_text_names.specs.declared.tables.SharedTables.{SharedTables}
-use Rattle.kpn_text_names.specs.View.{program_seen}
+use Rattle.kpn_text.proofs.Common.{◌≡◌, List, [], ◌∷◌, length, map, refl, sym, ap, ◌∙◌, arith, err_from_is_err_and, into_iter_items, Parts, first_fault, ProgramParts, SharedTables, program_seen}
 use Rattle.kpn_text.proofs.Tables.{made_all, made_broken, made_next, made_start, program_keeps}
 use Rattle.kpn_text.proofs.network.programs.Goals as goal
 

@@ -1,7 +1,5 @@
 -- The programs so far, and the parts that are left.
-use Rattle.std.proofs.Common.{◌≡◌, length, map}
-use Rattle.std.specs.Vec.Iter.{into_iter_items, into_iter_len}
-use Rattle.kpn_text_names.specs.View.{program_seen}
+use Rattle.kpn_text.proofs.Common.{◌≡◌, length, map, into_iter_items, into_iter_len, program_seen}
 use Rattle.kpn_text.proofs.Tables.{Made}
 use Rattle.kpn_text.proofs.network.programs.Given as goal
 

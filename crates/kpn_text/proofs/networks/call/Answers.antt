@@ -1,9 +1,5 @@
 -- Its parts, one after the other.
-use Rattle.std.proofs.Common.{◌++◌, codes}
-use Rattle.kpn_net.specs.Tables.{instance_at}
-use Rattle.kpn_text_names.specs.Names.{name_at}
-use Rattle.kpn_text.specs.Named.{call_named}
-use Rattle.kpn_text.specs.Text.{name_text, names_text, outs_text, values_text}
+use Rattle.kpn_text.proofs.Common.{◌++◌, codes, instance_at, name_at, call_named, name_text, names_text, outs_text, values_text}
 use Rattle.kpn_text.proofs.PrintingLemmas.{then_five}
 use Rattle.kpn_text.proofs.networks.call.Goals as goal
 

@@ -1,8 +1,5 @@
 -- What is put so far, and the channels still to come, are all channels.
-use Rattle.std.proofs.Common.{◌≡◌, ◌++◌, List, ℕ, drop}
-use Rattle.kpn_text_names.specs.NetworkNames.{paired}
-use Rattle.kpn_text.specs.Named.{channel_named}
-use Rattle.kpn_text.specs.Text.{all_text, network_item_text}
+use Rattle.kpn_text.proofs.Common.{◌≡◌, ◌++◌, List, ℕ, drop, paired, channel_named, all_text, network_item_text}
 use Rattle.kpn_text.proofs.networks.channels.Given as goal
 
 abbrev pub invariant-loop-c : goal.invariant-loop-c

@@ -1,8 +1,5 @@
 -- What is put so far, and the instances still to come, are all instances.
-use Rattle.std.proofs.Common.{◌≡◌, ◌++◌, List, ℕ, drop}
-use Rattle.kpn_text_names.specs.NetworkNames.{paired}
-use Rattle.kpn_text.specs.Named.{instance_named}
-use Rattle.kpn_text.specs.Text.{all_text, network_item_text}
+use Rattle.kpn_text.proofs.Common.{◌≡◌, ◌++◌, List, ℕ, drop, paired, instance_named, all_text, network_item_text}
 use Rattle.kpn_text.proofs.networks.instances.Given as goal
 
 abbrev pub invariant-loop-p : goal.invariant-loop-p

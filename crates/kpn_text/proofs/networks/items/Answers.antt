@@ -1,8 +1,5 @@
 -- Its parts, one after the other.
-use Rattle.std.proofs.Common.{◌++◌, codes, sym, ap}
-use Rattle.kpn_text_names.specs.NetworkNames.{paired}
-use Rattle.kpn_text.specs.Named.{channel_named, growth_named, instance_named, limit_named, policy_named}
-use Rattle.kpn_text.specs.Text.{all_text, growth_text, network_item_text, limit_text, policy_text}
+use Rattle.kpn_text.proofs.Common.{◌++◌, codes, sym, ap, paired, channel_named, growth_named, instance_named, limit_named, policy_named, all_text, growth_text, network_item_text, limit_text, policy_text}
 use Rattle.kpn_text.proofs.PrintingLemmas.{all_text-append, same_prints, then_five}
 use Rattle.kpn_text.proofs.networks.items.Goals as goal
 

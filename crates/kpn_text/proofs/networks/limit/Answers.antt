@@ -1,7 +1,5 @@
 -- By whether it is below the one that holds without a line.
-use Rattle.std.proofs.Common.{Some, sym, ap, arith}
-use Rattle.std.proofs.lemmas.Grind.{common_steps}
-use Rattle.kpn_text.specs.Text.{limit_text}
+use Rattle.kpn_text.proofs.Common.{Some, sym, ap, arith, common_steps, limit_text}
 use Rattle.kpn_text.proofs.PrintingLemmas.{limit_written, same_prints}
 use Rattle.kpn_text.proofs.networks.limit.Goals as goal
 

@@ -1,6 +1,5 @@
 -- One name more.
-use Rattle.kpn_text_names.specs.Names.{name_at}
-use Rattle.kpn_text.specs.Text.{name_text}
+use Rattle.kpn_text.proofs.Common.{name_at, name_text}
 use Rattle.kpn_text.proofs.PrintingLemmas.{joined_more}
 use Rattle.kpn_text.proofs.networks.numbered.Goals as goal
 

@@ -1,7 +1,5 @@
 -- What is put so far, and the names still to come, are all names.
-use Rattle.std.proofs.Common.{◌≡◌, ◌++◌, List, ℕ, drop, map}
-use Rattle.kpn_text_names.specs.Names.{name_at}
-use Rattle.kpn_text.specs.Text.{all_text, further_text, name_text}
+use Rattle.kpn_text.proofs.Common.{◌≡◌, ◌++◌, List, ℕ, drop, map, name_at, all_text, further_text, name_text}
 use Rattle.kpn_text.proofs.networks.numbered.Given as goal
 
 abbrev pub invariant-loop-number : goal.invariant-loop-number

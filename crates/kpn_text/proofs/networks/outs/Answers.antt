@@ -1,7 +1,5 @@
 -- There are some.
-use Rattle.std.proofs.Common.{arith}
-use Rattle.std.proofs.lemmas.Grind.{common_steps}
-use Rattle.kpn_text_names.specs.Names.{name_at}
+use Rattle.kpn_text.proofs.Common.{arith, common_steps, name_at}
 use Rattle.kpn_text.proofs.PrintingLemmas.{same_prints, some_outs}
 use Rattle.kpn_text.proofs.networks.outs.Goals as goal
 

@@ -1,7 +1,5 @@
 -- The name is that of the process with the number.
-use Rattle.std.proofs.Common.{List, ℕ, [], ◌++◌, sym, ap, ◌∙◌}
-use Rattle.std.proofs.lemmas.List.{get_or-map}
-use Rattle.kpn_text_names.specs.declared.network_names.ProcessNames.{ProcessNames}
+use Rattle.kpn_text.proofs.Common.{List, ℕ, [], ◌++◌, sym, ap, ◌∙◌, get_or-map, ProcessNames}
 use Rattle.kpn_text.proofs.PrintingLemmas.{same_prints}
 use Rattle.kpn_text.proofs.networks.process_name.Goals as goal
 

@@ -1,8 +1,5 @@
 -- What is put so far, and the processes still to come, are all processes.
-use Rattle.std.proofs.Common.{◌≡◌, ◌++◌, List, ℕ, drop}
-use Rattle.kpn_text_names.specs.NetworkNames.{paired}
-use Rattle.kpn_text.specs.Named.{process_named}
-use Rattle.kpn_text.specs.Text.{all_text, process_text}
+use Rattle.kpn_text.proofs.Common.{◌≡◌, ◌++◌, List, ℕ, drop, paired, process_named, all_text, process_text}
 use Rattle.kpn_text.proofs.networks.processes.Given as goal
 
 abbrev pub invariant-loop-i : goal.invariant-loop-i

@@ -1,6 +1,5 @@
 -- There are some.
-use Rattle.std.proofs.Common.{arith}
-use Rattle.std.proofs.lemmas.Grind.{common_steps}
+use Rattle.kpn_text.proofs.Common.{arith, common_steps}
 use Rattle.kpn_text.proofs.PrintingLemmas.{same_prints, some_values}
 use Rattle.kpn_text.proofs.networks.values.Goals as goal
 

@@ -1,6 +1,5 @@
 -- What is put so far, and the levels still to come, are all levels.
-use Rattle.std.proofs.Common.{◌≡◌, ◌-◌, ◌++◌, List, ℕ}
-use Rattle.kpn_text.specs.Text.{indented}
+use Rattle.kpn_text.proofs.Common.{◌≡◌, ◌-◌, ◌++◌, List, ℕ, indented}
 use Rattle.kpn_text.proofs.pieces.indent.Given as goal
 
 abbrev pub invariant-loop-step : goal.invariant-loop-step

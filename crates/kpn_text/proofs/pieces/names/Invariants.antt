@@ -1,6 +1,5 @@
 -- What is put so far, and the names still to come, are all names.
-use Rattle.std.proofs.Common.{◌≡◌, ◌++◌, List, ℕ, drop}
-use Rattle.kpn_text.specs.Text.{all_text, further_text, name_text}
+use Rattle.kpn_text.proofs.Common.{◌≡◌, ◌++◌, List, ℕ, drop, all_text, further_text, name_text}
 use Rattle.kpn_text.proofs.pieces.names.Given as goal
 
 abbrev pub invariant-loop-name : goal.invariant-loop-name

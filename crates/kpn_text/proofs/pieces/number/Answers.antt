@@ -1,6 +1,5 @@
 -- A number is written as std writes it.
-use Rattle.std.proofs.Common.{arith}
-use Rattle.std.proofs.lemmas.Grind.{common_steps}
+use Rattle.kpn_text.proofs.Common.{arith, common_steps}
 use Rattle.kpn_text.proofs.PrintingLemmas.{number_text, value_text, same_prints}
 use Rattle.kpn_text.proofs.pieces.number.Goals as goal
 

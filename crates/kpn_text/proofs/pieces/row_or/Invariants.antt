@@ -1,6 +1,5 @@
 -- The rows that were passed begin elsewhere.
-use Rattle.std.proofs.Common.{◌≡◌, drop}
-use Rattle.kpn_text.specs.Named.{row_name_or}
+use Rattle.kpn_text.proofs.Common.{◌≡◌, drop, row_name_or}
 use Rattle.kpn_text.proofs.pieces.row_or.Given as goal
 
 abbrev pub invariant-loop-row : goal.invariant-loop-row

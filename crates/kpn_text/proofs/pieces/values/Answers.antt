@@ -1,7 +1,5 @@
 -- One value more.
-use Rattle.std.proofs.Common.{pos}
-use Rattle.kpn_text.specs.Named.{literal_named}
-use Rattle.kpn_text.specs.Text.{literal_text}
+use Rattle.kpn_text.proofs.Common.{pos, literal_named, literal_text}
 use Rattle.kpn_text.proofs.PrintingLemmas.{joined_more}
 use Rattle.kpn_text.proofs.pieces.values.Goals as goal
 

@@ -1,7 +1,5 @@
 -- What is put so far, and the values still to come, are all values.
-use Rattle.std.proofs.Common.{◌≡◌, ◌++◌, List, ℕ, drop, map}
-use Rattle.kpn_text.specs.Named.{literal_named}
-use Rattle.kpn_text.specs.Text.{all_text, further_text, literal_text}
+use Rattle.kpn_text.proofs.Common.{◌≡◌, ◌++◌, List, ℕ, drop, map, literal_named, all_text, further_text, literal_text}
 use Rattle.kpn_text.proofs.pieces.values.Given as goal
 
 abbrev pub invariant-loop-value : goal.invariant-loop-value

@@ -1,7 +1,5 @@
 -- The parameters are the first variables.
-use Rattle.std.proofs.Common.{◌++◌, codes, take}
-use Rattle.std.proofs.lemmas.List.{take_min}
-use Rattle.kpn_text.specs.Text.{parts_text}
+use Rattle.kpn_text.proofs.Common.{◌++◌, codes, take, take_min, parts_text}
 use Rattle.kpn_text.proofs.PrintingLemmas.{then_five}
 use Rattle.kpn_text.proofs.processes.head.Goals as goal
 

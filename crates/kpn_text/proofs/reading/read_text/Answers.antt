@@ -1,11 +1,6 @@
 -- Phase by phase, in the language that the text tells.
-use Rattle.std.proofs.Common.{inl, sym, subst}
-use Rattle.std.proofs.lemmas.Result.{err_from_is_err_and}
+use Rattle.kpn_text.proofs.Common.{inl, sym, subst, err_from_is_err_and, named_seen, Document, TokensFail, SpellsDocument}
 use Rattle.kpn_text_grammar.specs.View as grammar
-use Rattle.kpn_text_names.specs.View.{named_seen}
-use Rattle.kpn_text.specs.Document.{Document}
-use Rattle.kpn_text.specs.Making.{TokensFail}
-use Rattle.kpn_text.specs.Spells.{SpellsDocument}
 use Rattle.kpn_text.proofs.Refusals.{made_spelled, names_refused, network_refused, phases, tokens_refused, tree_refused}
 use Rattle.kpn_text.proofs.reading.read_text.Goals as goal
 

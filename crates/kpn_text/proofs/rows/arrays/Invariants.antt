@@ -1,7 +1,5 @@
 -- What is put so far, and the arrays still to come, are all arrays.
-use Rattle.std.proofs.Common.{◌≡◌, ◌++◌, List, ℕ, drop, map}
-use Rattle.kpn_text.specs.Named.{array_named}
-use Rattle.kpn_text.specs.Text.{all_text, declaration_text}
+use Rattle.kpn_text.proofs.Common.{◌≡◌, ◌++◌, List, ℕ, drop, map, array_named, all_text, declaration_text}
 use Rattle.kpn_text.proofs.rows.arrays.Given as goal
 
 abbrev pub invariant-loop-row : goal.invariant-loop-row

@@ -1,9 +1,5 @@
 -- The arrays, and then the first of the tables.
-use Rattle.std.proofs.Common.{◌++◌, List, map, take, sym}
-use Rattle.std.proofs.lemmas.List.{take_min}
-use Rattle.kpn_text_grammar.specs.Syntax.{Declaration}
-use Rattle.kpn_text.specs.Named.{array_named, tables_named}
-use Rattle.kpn_text.specs.Text.{all_text, declaration_text}
+use Rattle.kpn_text.proofs.Common.{◌++◌, List, map, take, sym, take_min, Declaration, array_named, tables_named, all_text, declaration_text}
 use Rattle.kpn_text.proofs.PrintingLemmas.{all_text-append, same_prints, then_prints}
 use Rattle.kpn_text.proofs.rows.declarations.Goals as goal
 

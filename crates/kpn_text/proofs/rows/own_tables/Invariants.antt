@@ -1,7 +1,5 @@
 -- What is put so far, and the tables still to come, with the values that are left, are all tables.
-use Rattle.std.proofs.Common.{◌≡◌, ◌++◌, List, ℕ, drop}
-use Rattle.kpn_text.specs.Named.{tables_named}
-use Rattle.kpn_text.specs.Text.{all_text, declaration_text}
+use Rattle.kpn_text.proofs.Common.{◌≡◌, ◌++◌, List, ℕ, drop, tables_named, all_text, declaration_text}
 use Rattle.kpn_text.proofs.rows.own_tables.Given as goal
 
 abbrev pub invariant-loop-row : goal.invariant-loop-row

@@ -1,7 +1,5 @@
 -- What is put so far, and the tables still to come, are all tables.
-use Rattle.std.proofs.Common.{◌≡◌, ◌++◌, List, ℕ, drop, map}
-use Rattle.kpn_text.specs.Named.{table_named}
-use Rattle.kpn_text.specs.Text.{all_text, table_text}
+use Rattle.kpn_text.proofs.Common.{◌≡◌, ◌++◌, List, ℕ, drop, map, table_named, all_text, table_text}
 use Rattle.kpn_text.proofs.rows.shared_tables.Given as goal
 
 abbrev pub invariant-loop-shared : goal.invariant-loop-shared

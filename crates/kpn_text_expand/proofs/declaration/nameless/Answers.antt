@@ -1,7 +1,5 @@
 -- A token is one more, or is the first that is a name.
-use Rattle.std.proofs.Common.{sym, ◌∙◌, arith}
-use Rattle.std.proofs.lemmas.Result.{err_from_is_err_and}
-use Rattle.kpn_text_expand.specs.Declaration.{with_nameless}
+use Rattle.kpn_text_expand.proofs.Common.{sym, ◌∙◌, arith, err_from_is_err_and, with_nameless}
 use Rattle.kpn_text_expand.proofs.Steps.{goes, fails, ends}
 use Rattle.kpn_text_expand.proofs.declaration.nameless.Goals as goal
 

@@ -1,7 +1,5 @@
 -- The tokens that remain, taken from here, lead to the same as all of them.
-use Rattle.std.proofs.Common.{◌≡◌, drop}
-use Rattle.kpn_text_expand.specs.Declaration.{nameless, with_nameless}
-use Rattle.kpn_text_expand.specs.Results.{each}
+use Rattle.kpn_text_expand.proofs.Common.{◌≡◌, drop, nameless, with_nameless, each}
 use Rattle.kpn_text_expand.proofs.declaration.nameless.Given as goal
 
 abbrev pub invariant-loop-lexeme : goal.invariant-loop-lexeme

@@ -1,6 +1,5 @@
 -- A token takes what has gone by a step on, or is the first that is wrong.
-use Rattle.std.proofs.Common.{sym, ◌∙◌, arith}
-use Rattle.std.proofs.lemmas.Result.{err_from_is_err_and}
+use Rattle.kpn_text_expand.proofs.Common.{sym, ◌∙◌, arith, err_from_is_err_and}
 use Rattle.kpn_text_expand.specs.Constants.{step}
 use Rattle.kpn_text_expand.proofs.Steps.{goes, fails, ends}
 use Rattle.kpn_text_expand.proofs.expanding.all_steps.Goals as goal

@@ -1,6 +1,5 @@
 -- The tokens that remain, taken from here, lead to the same as all of them.
-use Rattle.std.proofs.Common.{◌≡◌, drop}
-use Rattle.kpn_text_expand.specs.Constants.{steps}
+use Rattle.kpn_text_expand.proofs.Common.{◌≡◌, drop, steps}
 use Rattle.kpn_text_expand.specs.Expanding as spec
 use Rattle.kpn_text_expand.proofs.expanding.all_steps.Given as goal
 

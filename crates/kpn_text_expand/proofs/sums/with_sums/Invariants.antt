@@ -1,6 +1,5 @@
 -- The tokens so far have gone by.
-use Rattle.std.proofs.Common.{◌≡◌, take}
-use Rattle.std.specs.List.{fold}
+use Rattle.kpn_text_expand.proofs.Common.{◌≡◌, take, fold}
 use Rattle.kpn_text_expand.specs.Sums.{at_first, step}
 use Rattle.kpn_text_expand.proofs.sums.with_sums.Given as goal
 

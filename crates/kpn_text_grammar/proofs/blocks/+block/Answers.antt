@@ -1,8 +1,6 @@
 -- A block is its statements, one level below, and its braces; one more round of the loop reads one statement more.
-use Rattle.std.proofs.Common.{◌≡◌, ◌<◌, true, false, sym, ◌∙◌, arith}
-use Rattle.std.proofs.lemmas.Result.{err_from_is_err_and}
+use Rattle.kpn_text_grammar.proofs.Common.{◌≡◌, ◌<◌, true, false, sym, ◌∙◌, arith, err_from_is_err_and, tokens_from, statement_seen}
 use Rattle.kpn_text_grammar.specs.Reading.{is_branch, all_of}
-use Rattle.kpn_text_grammar.specs.View.{tokens_from, statement_seen}
 use Rattle.kpn_text_grammar.proofs.BlockSteps.{block_below, block_deep, block_unopened, second_below, second_deep, second_is_block}
 use Rattle.kpn_text_grammar.proofs.Rounds.{at_first, one_more, stops_here, fails_here, place_moves}
 use Rattle.kpn_text_grammar.proofs.StatementLaws.{statement_shortens}

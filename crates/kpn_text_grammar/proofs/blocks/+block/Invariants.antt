@@ -1,7 +1,5 @@
 -- A block is read by its statements, one level deeper each; what was read so far comes before what is still read.
-use Rattle.std.proofs.Common.{◌+◌, ◌-◌, ◌*◌, length}
-use Rattle.kpn_text_grammar.specs.Reading.{stands_in_block, one_statement, block, second_block, all_of}
-use Rattle.kpn_text_grammar.specs.View.{tokens_from, statements_seen}
+use Rattle.kpn_text_grammar.proofs.Common.{◌+◌, ◌-◌, ◌*◌, length, stands_in_block, one_statement, block, second_block, all_of, tokens_from, statements_seen}
 use Rattle.kpn_text_grammar.proofs.Rounds.{StandsAt}
 use Rattle.kpn_text_grammar.proofs.blocks.+block.Given as goal
 

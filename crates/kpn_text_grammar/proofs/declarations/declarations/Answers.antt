@@ -1,8 +1,6 @@
 -- One more round of the loop reads one thing more.
-use Rattle.std.proofs.Common.{sym, ◌∙◌}
-use Rattle.std.proofs.lemmas.Result.{err_from_is_err_and}
+use Rattle.kpn_text_grammar.proofs.Common.{sym, ◌∙◌, err_from_is_err_and, tokens_from, declaration_seen}
 use Rattle.kpn_text_grammar.specs.Reading.{all_of}
-use Rattle.kpn_text_grammar.specs.View.{tokens_from, declaration_seen}
 use Rattle.kpn_text_grammar.proofs.DeclarationLaws.{declaration_ones}
 use Rattle.kpn_text_grammar.proofs.Readers.{shortens}
 use Rattle.kpn_text_grammar.proofs.Rounds.{at_first, one_more, stops_here, fails_here, place_moves}

@@ -1,7 +1,5 @@
 -- What was read so far comes before what is still read.
-use Rattle.std.proofs.Common.{◌-◌, length}
-use Rattle.kpn_text_grammar.specs.Reading.{declares, declaration, all_of}
-use Rattle.kpn_text_grammar.specs.View.{tokens_from, declarations_seen}
+use Rattle.kpn_text_grammar.proofs.Common.{◌-◌, length, declares, declaration, all_of, tokens_from, declarations_seen}
 use Rattle.kpn_text_grammar.proofs.Rounds.{StandsAt}
 use Rattle.kpn_text_grammar.proofs.declarations.declarations.Given as goal
 

@@ -1,9 +1,6 @@
 -- What was read so far comes before what is still read.
-use Rattle.std.proofs.Common.{◌-◌, length}
+use Rattle.kpn_text_grammar.proofs.Common.{◌-◌, length, is_keyword, shared_table, all_of, tokens_from, tables_seen}
 use Rattle.kpn_text_tokens.specs.declared.tokens.Keyword.TheVariants as keyword_
-use Rattle.kpn_text_grammar.specs.TokenTests.{is_keyword}
-use Rattle.kpn_text_grammar.specs.Reading.{shared_table, all_of}
-use Rattle.kpn_text_grammar.specs.View.{tokens_from, tables_seen}
 use Rattle.kpn_text_grammar.proofs.Rounds.{StandsAt}
 use Rattle.kpn_text_grammar.proofs.declarations.shared_tables.Given as goal
 

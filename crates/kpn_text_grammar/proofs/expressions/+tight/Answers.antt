@@ -1,13 +1,8 @@
 -- An expression is an operand, and then a turn of the loop reads an operator and its right side.
-use Rattle.std.proofs.Common.{◌≡◌, ℕ, ◌+◌, ◌-◌, sym, ap, subst, ◌∙◌, arith, Ok, Err}
-use Rattle.std.proofs.lemmas.Result.{err_from_is_err_and}
+use Rattle.kpn_text_grammar.proofs.Common.{◌≡◌, ℕ, ◌+◌, ◌-◌, sym, ap, subst, ◌∙◌, arith, Ok, Err, err_from_is_err_and, right_side, tightness, ReadingFails, tight, ExpressionNode, binary, term, term_step, tokens_from}
 use Rattle.kpn_text_grammar.specs.declared.tree.Expression.{fold-roll-Expression}
 use Rattle.kpn_text_grammar.specs.declared.tree.Expression.TheOpen.{Expression-F}
 use Rattle.kpn_text_grammar.specs.declared.tree.Expression.TheVariants.{rolls-Binary}
-use Rattle.kpn_text_grammar.specs.Operators.{right_side, tightness}
-use Rattle.kpn_text_grammar.specs.Reading.{ReadingFails, tight}
-use Rattle.kpn_text_grammar.specs.Syntax.{ExpressionNode, binary}
-use Rattle.kpn_text_grammar.specs.View.{term, term_step, tokens_from}
 use Rattle.kpn_text_grammar.proofs.Rounds.{place_moves}
 use Rattle.kpn_text_grammar.proofs.Steps.{fails_with}
 use Rattle.kpn_text_grammar.proofs.TightLaws.{right_below}

@@ -1,8 +1,6 @@
 -- An expression is read by its operands, each with fewer levels or fewer signs and parentheses left. What was read so
 -- far is the left side of what is still read.
-use Rattle.std.proofs.Common.{◌+◌, ◌-◌, ◌*◌, length}
-use Rattle.kpn_text_grammar.specs.Reading.{tight}
-use Rattle.kpn_text_grammar.specs.View.{term, tokens_from}
+use Rattle.kpn_text_grammar.proofs.Common.{◌+◌, ◌-◌, ◌*◌, length, tight, term, tokens_from}
 use Rattle.kpn_text_grammar.proofs.TightSteps.{GoesOn}
 use Rattle.kpn_text_grammar.proofs.expressions.+tight.Given as goal
 

@@ -1,7 +1,5 @@
 -- Each way by the law of the readers.
-use Rattle.std.proofs.Common.{arith}
-use Rattle.kpn_limits.specs.declared.TheConstants.{MAX_LEVELS}
-use Rattle.kpn_text_grammar.specs.declared.parser.Scope.{Scope}
+use Rattle.kpn_text_grammar.proofs.Common.{arith, MAX_LEVELS, Scope}
 use Rattle.kpn_text_grammar.proofs.DescriptionLaws.{description_takes, description_again}
 use Rattle.kpn_text_grammar.proofs.laws.read_where_spelled.Goals as goal
 

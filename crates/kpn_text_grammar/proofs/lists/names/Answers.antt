@@ -1,6 +1,5 @@
 -- One more round of the loop reads one thing more.
-use Rattle.std.proofs.Common.{sym, ◌∙◌}
-use Rattle.std.proofs.lemmas.Result.{err_from_is_err_and}
+use Rattle.kpn_text_grammar.proofs.Common.{sym, ◌∙◌, err_from_is_err_and}
 use Rattle.kpn_text_grammar.specs.declared.tree.Identifier.{Identifier}
 use Rattle.kpn_text_grammar.proofs.Readers.{a_name, further_ones, shortens}
 use Rattle.kpn_text_grammar.proofs.Rounds.{one_more, stops_here, fails_here, place_moves}

@@ -1,9 +1,6 @@
 -- What was read so far comes before what is still read.
-use Rattle.std.proofs.Common.{◌-◌, length}
+use Rattle.kpn_text_grammar.proofs.Common.{◌-◌, length, is_mark, further, literal, separated, tokens_from, values_seen}
 use Rattle.kpn_text_tokens.specs.declared.tokens.Mark.TheVariants as mark_
-use Rattle.kpn_text_grammar.specs.TokenTests.{is_mark}
-use Rattle.kpn_text_grammar.specs.Reading.{further, literal, separated}
-use Rattle.kpn_text_grammar.specs.View.{tokens_from, values_seen}
 use Rattle.kpn_text_grammar.proofs.Rounds.{StandsAt}
 use Rattle.kpn_text_grammar.proofs.lists.values.Given as goal
 

@@ -1,7 +1,5 @@
 -- What was read so far comes before what is still read.
-use Rattle.std.proofs.Common.{◌-◌, length}
-use Rattle.kpn_text_grammar.specs.Reading.{stands_in_block, item, all_of}
-use Rattle.kpn_text_grammar.specs.View.{tokens_from, items_seen}
+use Rattle.kpn_text_grammar.proofs.Common.{◌-◌, length, stands_in_block, item, all_of, tokens_from, items_seen}
 use Rattle.kpn_text_grammar.proofs.Rounds.{StandsAt}
 use Rattle.kpn_text_grammar.proofs.networks.items.Given as goal
 

@@ -1,8 +1,6 @@
 -- One more round of the loop reads one thing more.
-use Rattle.std.proofs.Common.{◌≡◌, ℕ, length, sym, ap, subst, ◌∙◌, arith}
-use Rattle.std.proofs.lemmas.Result.{err_from_is_err_and}
+use Rattle.kpn_text_grammar.proofs.Common.{◌≡◌, ℕ, length, sym, ap, subst, ◌∙◌, arith, err_from_is_err_and, tokens_from, process_seen}
 use Rattle.kpn_text_grammar.specs.Reading.{ReadingFails, numbered_process, processes}
-use Rattle.kpn_text_grammar.specs.View.{tokens_from, process_seen}
 use Rattle.kpn_text_grammar.proofs.ProcessLaws.{process_ones}
 use Rattle.kpn_text_grammar.proofs.Readers.{shortens}
 use Rattle.kpn_text_grammar.proofs.Rounds.{at_first, one_more, stops_here, fails_here, place_moves}

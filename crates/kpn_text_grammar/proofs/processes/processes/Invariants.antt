@@ -1,9 +1,6 @@
 -- What was read so far comes before what is still read.
-use Rattle.std.proofs.Common.{◌-◌, length}
+use Rattle.kpn_text_grammar.proofs.Common.{◌-◌, length, is_keyword, numbered_process, processes, tokens_from, processes_seen}
 use Rattle.kpn_text_tokens.specs.declared.tokens.Keyword.TheVariants as keyword_
-use Rattle.kpn_text_grammar.specs.TokenTests.{is_keyword}
-use Rattle.kpn_text_grammar.specs.Reading.{numbered_process, processes}
-use Rattle.kpn_text_grammar.specs.View.{tokens_from, processes_seen}
 use Rattle.kpn_text_grammar.proofs.Rounds.{StandsAt}
 use Rattle.kpn_text_grammar.proofs.processes.processes.Given as goal
 

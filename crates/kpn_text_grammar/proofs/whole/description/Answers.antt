@@ -1,8 +1,5 @@
 -- What was read is spelled so, and what is spelled so is read, by the laws of reading.
-use Rattle.std.proofs.Common.{subst, arith}
-use Rattle.kpn_limits.specs.declared.TheConstants.{MAX_LEVELS}
-use Rattle.kpn_text_grammar.specs.Reading.{ReadingGives, description_of}
-use Rattle.kpn_text_grammar.specs.View.{document}
+use Rattle.kpn_text_grammar.proofs.Common.{subst, arith, MAX_LEVELS, ReadingGives, description_of, document}
 use Rattle.kpn_text_grammar.proofs.DescriptionLaws.{description_takes, description_again, description_fault}
 use Rattle.kpn_text_grammar.proofs.Steps.{was_read, is_returned}
 use Rattle.kpn_text_grammar.proofs.whole.description.Goals as goal

@@ -1,7 +1,6 @@
 -- The bytes kept are what the reader has lost, and there is room for them within the limit. Each turn takes at least
 -- one byte of that room.
-use Rattle.std.proofs.Common.{◌-◌, ◌≤◌, vec_len}
-use Rattle.std.specs.Io.KnownBytes.{Consumes}
+use Rattle.kpn_text_items.proofs.Common.{◌-◌, ◌≤◌, vec_len, Consumes}
 use Rattle.kpn_text_items.proofs.input.read_up_to.Given as goal
 
 abbrev pub invariant-loop-count : goal.invariant-loop-count

@@ -1,6 +1,5 @@
 -- The first line ends at the first line feed, and is all if there is none.
-use Rattle.std.proofs.Common.{◌+◌, ◌∷◌, length, ap, sym, ◌∙◌}
-use Rattle.std.specs.Str.Lines.{lines}
+use Rattle.kpn_text_items.proofs.Common.{◌+◌, ◌∷◌, length, ap, sym, ◌∙◌, lines}
 use Rattle.std.proofs.lemmas.List.{take_rest}
 use Rattle.std.proofs.Math.Seq.{drop-length}
 use Rattle.kpn_text_items.proofs.LineLemmas.{lines-found, lines-none}

@@ -1,7 +1,5 @@
 -- Each line read spells the item that is pushed for it, and a line that spells none is the first such.
-use Rattle.std.proofs.Common.{◌≡◌, ◌∷◌, ◌++◌, [], sym, subst, arith}
-use Rattle.std.proofs.lemmas.Int.{to_z-of_z}
-use Rattle.std.proofs.lemmas.Grind.{common_steps}
+use Rattle.kpn_text_items.proofs.Common.{◌≡◌, ◌∷◌, ◌++◌, [], sym, subst, arith, to_z-of_z, common_steps}
 use Rattle.kpn_text_items.proofs.FileLemmas.{HasTaken, HasTaken-more, IsFirstBad-from_taken}
 use Rattle.kpn_text_items.proofs.item_file.items_of.Goals as goal
 

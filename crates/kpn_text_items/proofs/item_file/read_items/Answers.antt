@@ -1,8 +1,6 @@
 -- There are no more items than bytes, which are within the limit.
-use Rattle.std.proofs.Common.{◌≤◌, vec_len, arith}
+use Rattle.kpn_text_items.proofs.Common.{◌≤◌, vec_len, arith, MAX_INPUT_BYTES, Spells}
 use Rattle.std.proofs.lemmas.Result.{IfOk-weaker}
-use Rattle.kpn_limits.specs.declared.TheConstants.{MAX_INPUT_BYTES}
-use Rattle.kpn_text_items.specs.ItemFile.{Spells}
 use Rattle.kpn_text_items.proofs.CountLemmas.{Spells-few}
 use Rattle.kpn_text_items.proofs.item_file.read_items.Goals as goal
 

@@ -1,7 +1,5 @@
 -- The writer has taken the text of the items before the index.
-use Rattle.std.proofs.Common.{take}
-use Rattle.std.specs.Io.KnownBytes.{Appends}
-use Rattle.kpn_text_items.specs.ItemFile.{item_text}
+use Rattle.kpn_text_items.proofs.Common.{take, Appends, item_text}
 use Rattle.kpn_text_items.proofs.item_file.write_items.Given as goal
 
 abbrev pub invariant-loop-item : goal.invariant-loop-item

@@ -1,6 +1,5 @@
 -- The bytes before the index are digits, and the number is theirs.
-use Rattle.std.proofs.Common.{◌≡◌, take}
-use Rattle.std.specs.Str.Parse.{AllDigits, digits_value}
+use Rattle.kpn_text_items.proofs.Common.{◌≡◌, take, AllDigits, digits_value}
 use Rattle.kpn_text_items.proofs.item_line.short_number.Given as goal
 
 abbrev pub invariant-loop-digit : goal.invariant-loop-digit

@@ -1,9 +1,5 @@
 -- Nothing is known, so no name is left.
-use Rattle.std.proofs.Common.{◌≡◌, Ok, subst}
-use Rattle.kpn_lang.specs.Syntax.{term_of}
-use Rattle.kpn_text_grammar.specs.View.{term}
-use Rattle.kpn_text_names.specs.declared.scope.NameScope.{NameScope}
-use Rattle.kpn_text_names.specs.Body.{term_in}
+use Rattle.kpn_text_names.proofs.Common.{◌≡◌, Ok, subst, term_of, term, NameScope, term_in}
 use Rattle.kpn_text_names.proofs.Closed.{closed}
 use Rattle.kpn_text_names.proofs.constant.constant_value.Goals as goal
 

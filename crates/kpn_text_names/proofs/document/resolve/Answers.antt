@@ -1,7 +1,5 @@
 -- Names and things were added together.
-use Rattle.std.proofs.Common.{map, refl}
-use Rattle.kpn_text_grammar.specs.View.{process_seen, item_seen}
-use Rattle.kpn_text_names.specs.View.{program_seen, programs_seen, wiring_seen}
+use Rattle.kpn_text_names.proofs.Common.{map, refl, process_seen, item_seen, program_seen, programs_seen, wiring_seen}
 use Rattle.kpn_text_names.proofs.Counts.{programs_match, wiring_matches, WiringMatches, each_named}
 use Rattle.kpn_text_names.proofs.document.resolve.Goals as goal
 

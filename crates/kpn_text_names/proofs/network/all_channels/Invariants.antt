@@ -1,7 +1,5 @@
 -- The items that remain, taken from here, lead to the same as all of them.
-use Rattle.std.proofs.Common.{◌≡◌, drop, map, fold}
-use Rattle.kpn_text_grammar.specs.View.{item_seen}
-use Rattle.kpn_text_names.specs.Network.{with_channel_name, all_channels}
+use Rattle.kpn_text_names.proofs.Common.{◌≡◌, drop, map, fold, item_seen, with_channel_name, all_channels}
 use Rattle.kpn_text_names.proofs.network.all_channels.Given as goal
 
 abbrev pub invariant-loop-item : goal.invariant-loop-item

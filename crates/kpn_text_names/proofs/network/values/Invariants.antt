@@ -1,7 +1,5 @@
 -- The values of the literals that were passed.
-use Rattle.std.proofs.Common.{◌≡◌, take, map}
-use Rattle.kpn_text_grammar.specs.Syntax.{literal_value}
-use Rattle.kpn_text_grammar.specs.View.{literal_seen}
+use Rattle.kpn_text_names.proofs.Common.{◌≡◌, take, map, literal_value, literal_seen}
 use Rattle.kpn_text_names.proofs.network.values.Given as goal
 
 abbrev pub invariant-loop-literal : goal.invariant-loop-literal

@@ -1,8 +1,5 @@
 -- Each way by induction: on the scan, and on the rules.
-use Rattle.std.proofs.Common.{List, Result, subst}
-use Rattle.kpn_text_tokens.specs.declared.lexer.LexFault.{LexFault}
-use Rattle.kpn_text_tokens.specs.declared.tokens.Lexeme.{Lexeme}
-use Rattle.kpn_text_tokens.specs.Rules.{Reads}
+use Rattle.kpn_text_tokens.proofs.Common.{List, Result, subst, LexFault, Lexeme, Reads}
 use Rattle.kpn_text_tokens.proofs.Follows.{scan_rules}
 use Rattle.kpn_text_tokens.proofs.TokenLaws.{rules_scan}
 use Rattle.kpn_text_tokens.proofs.laws.scan_follows_the_rules.Goals as goal

@@ -1,6 +1,5 @@
 -- A run of digits is made of digits, and a number is in range.
-use Rattle.std.proofs.Common.{◌≤◌, sym, ◌∙◌, arith}
-use Rattle.kpn_text_tokens.specs.declared.tokens.TheConstants.{MAX_NUMBER}
+use Rattle.kpn_text_tokens.proofs.Common.{◌≤◌, sym, ◌∙◌, arith, MAX_NUMBER}
 use Rattle.kpn_text_tokens.proofs.NumeralLaws.{numeral_small}
 use Rattle.kpn_text_tokens.proofs.Pieces.{run_of_digits}
 use Rattle.kpn_text_tokens.proofs.lexer.digit_piece.Goals as goal

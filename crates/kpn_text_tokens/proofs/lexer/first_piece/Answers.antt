@@ -1,8 +1,5 @@
 -- What is found is within the text.
-use Rattle.std.proofs.Common.{rules, ◌≡◌, true, refl}
-use Rattle.std.specs.Char.{is_ascii_digit}
-use Rattle.std.specs.Prelude.{slice_index}
-use Rattle.kpn_text_tokens.specs.Numerals.{quoted_value}
+use Rattle.kpn_text_tokens.proofs.Common.{rules, ◌≡◌, true, refl, is_ascii_digit, slice_index, quoted_value}
 use Rattle.kpn_text_tokens.proofs.Pieces.{digit_takes, mark_takes, quote_fits}
 use Rattle.kpn_text_tokens.proofs.lexer.first_piece.Goals as goal
 

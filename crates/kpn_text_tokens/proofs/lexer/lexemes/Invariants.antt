@@ -1,6 +1,5 @@
 -- The lexemes found so far, and then those of the rest, are those of the whole text.
-use Rattle.std.proofs.Common.{◌≡◌, ◌+◌, length}
-use Rattle.kpn_text_tokens.specs.Lexing.{scan}
+use Rattle.kpn_text_tokens.proofs.Common.{◌≡◌, ◌+◌, length, scan}
 use Rattle.kpn_text_tokens.proofs.Scanning.{with_front}
 use Rattle.kpn_text_tokens.proofs.lexer.lexemes.Given as goal
 

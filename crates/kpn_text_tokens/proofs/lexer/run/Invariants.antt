@@ -1,7 +1,5 @@
 -- What was passed over and what goes on from there are the whole run.
-use Rattle.std.proofs.Common.{◌≡◌, ◌+◌, ◌-◌, ◌≤◌, length, drop}
-use Rattle.std.specs.List.{prefix_len}
-use Rattle.kpn_text_tokens.specs.Lexing.{is_in}
+use Rattle.kpn_text_tokens.proofs.Common.{◌≡◌, ◌+◌, ◌-◌, ◌≤◌, length, drop, prefix_len, is_in}
 use Rattle.kpn_text_tokens.proofs.lexer.run.Given as goal
 
 abbrev pub invariant-loop-end : goal.invariant-loop-end

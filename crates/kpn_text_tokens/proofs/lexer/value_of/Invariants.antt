@@ -1,6 +1,5 @@
 -- The value of the digits read so far.
-use Rattle.std.proofs.Common.{◌≡◌, take}
-use Rattle.std.specs.Str.Parse.{digits_value}
+use Rattle.kpn_text_tokens.proofs.Common.{◌≡◌, take, digits_value}
 use Rattle.kpn_text_tokens.proofs.lexer.value_of.Given as goal
 
 abbrev pub invariant-loop-digit : goal.invariant-loop-digit

@@ -1,6 +1,5 @@
 -- The digits that remain, behind the value so far, lead to the same as all of them.
-use Rattle.std.proofs.Common.{◌≡◌, drop}
-use Rattle.kpn_text_tokens.specs.Numerals.{digits_behind, digits_in}
+use Rattle.kpn_text_tokens.proofs.Common.{◌≡◌, drop, digits_behind, digits_in}
 use Rattle.kpn_text_tokens.proofs.numerals.digits_in.Given as goal
 
 abbrev pub invariant-loop-digit : goal.invariant-loop-digit

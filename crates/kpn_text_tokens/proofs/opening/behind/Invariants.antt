@@ -1,6 +1,5 @@
 -- The first token of the rest is that of the whole text.
-use Rattle.std.proofs.Common.{◌≡◌, length}
-use Rattle.kpn_text_tokens.specs.Opening.{first_token}
+use Rattle.kpn_text_tokens.proofs.Common.{◌≡◌, length, first_token}
 use Rattle.kpn_text_tokens.proofs.opening.behind.Given as goal
 
 abbrev pub invariant-loop-rest : goal.invariant-loop-rest

@@ -1,8 +1,5 @@
 -- The clocks are those of the events so far, whose ticks are few.
-use Rattle.std.proofs.Common.{take, sym, subst, ap, arith}
-use Rattle.std.proofs.lemmas.List.{length-take}
-use Rattle.kpn_ticks.specs.Ticks.{Clocks}
-use Rattle.kpn_ticks.specs.Shown.{AreClocks}
+use Rattle.kpn_ticks.proofs.Common.{take, sym, subst, ap, arith, length-take, Clocks, AreClocks}
 use Rattle.kpn_ticks.proofs.Counting.{clocks_are, ticks_are_few}
 use Rattle.kpn_ticks.proofs.clocks.clocks_after.Goals as goal
 

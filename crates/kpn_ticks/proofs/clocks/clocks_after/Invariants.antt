@@ -1,6 +1,4 @@
-use Rattle.std.proofs.Common.{◌≡◌, take}
-use Rattle.kpn_ticks.specs.Shown.{shown}
-use Rattle.kpn_ticks.specs.Ticks.{clocks_after}
+use Rattle.kpn_ticks.proofs.Common.{◌≡◌, take, shown, clocks_after}
 use Rattle.kpn_ticks.proofs.clocks.clocks_after.Given as goal
 
 abbrev pub invariant-loop-k : goal.invariant-loop-k

@@ -1,6 +1,5 @@
 -- One capacity more.
-use Rattle.std.proofs.Common.{[], ◌∷◌, ◌++◌, ap, ◌∙◌}
-use Rattle.kpn_net.specs.Tables.{channel_at, capacity}
+use Rattle.kpn_ticks.proofs.Common.{[], ◌∷◌, ◌++◌, ap, ◌∙◌, channel_at, capacity}
 use Rattle.kpn_ticks.proofs.Counting.{one_more}
 use Rattle.kpn_ticks.proofs.clocks.first_capacities.Goals as goal
 

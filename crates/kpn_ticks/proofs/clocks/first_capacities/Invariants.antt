@@ -1,6 +1,4 @@
-use Rattle.std.proofs.Common.{◌≡◌, map}
-use Rattle.std.specs.List.{range_with_len}
-use Rattle.kpn_net.specs.Tables.{channel_at, capacity}
+use Rattle.kpn_ticks.proofs.Common.{◌≡◌, map, range_with_len, channel_at, capacity}
 use Rattle.kpn_ticks.proofs.clocks.first_capacities.Given as goal
 
 abbrev pub invariant-loop-c : goal.invariant-loop-c

@@ -1,9 +1,5 @@
 -- The events of the trace have the clocks of its history.
-use Rattle.std.proofs.Common.{◌≡◌, List, IfOk, ap, sym, ◌∙◌, subst}
-use Rattle.kpn_history.specs.declared.event.Event.{Event}
-use Rattle.kpn_audit.specs.Stored.{tables_for}
-use Rattle.kpn_ticks.specs.Ticks.{Clocks, clocks_after}
-use Rattle.kpn_ticks.specs.Shown.{shown}
+use Rattle.kpn_ticks.proofs.Common.{◌≡◌, List, IfOk, ap, sym, ◌∙◌, subst, Event, tables_for, Clocks, clocks_after, shown}
 use Rattle.kpn_ticks.proofs.Told.{history_clocks}
 use Rattle.kpn_ticks.proofs.traces.clocks_of.Goals as goal
 

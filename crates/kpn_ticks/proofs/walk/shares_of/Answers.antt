@@ -1,8 +1,5 @@
 -- The events of the trace have the shares of its history.
-use Rattle.std.proofs.Common.{◌≡◌, ℕ, List, IfOk, ap, sym, ◌∙◌, subst}
-use Rattle.kpn_history.specs.declared.event.Event.{Event}
-use Rattle.kpn_audit.specs.Stored.{tables_for}
-use Rattle.kpn_ticks.specs.Chain.{shares_of}
+use Rattle.kpn_ticks.proofs.Common.{◌≡◌, ℕ, List, IfOk, ap, sym, ◌∙◌, subst, Event, tables_for, shares_of}
 use Rattle.kpn_ticks.proofs.Told.{history_shares}
 use Rattle.kpn_ticks.proofs.walk.shares_of.Goals as goal
 

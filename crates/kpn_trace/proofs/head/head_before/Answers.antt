@@ -1,6 +1,5 @@
 -- Bytes whose first line names no version, or whose second line names no policy and growth, begin with no head.
-use Rattle.std.proofs.Common.{ap, ◌∙◌}
-use Rattle.kpn_trace.specs.TraceText.{version_line}
+use Rattle.kpn_trace.proofs.Common.{ap, ◌∙◌, version_line}
 use Rattle.kpn_trace.proofs.Traces.{no_version, no_rules}
 use Rattle.kpn_trace.proofs.head.head_before.Goals as goal
 

@@ -1,6 +1,5 @@
 -- What follows the first number is no number and item.
-use Rattle.std.proofs.Common.{◌++◌, ◌∷◌}
-use Rattle.std.specs.Fmt.{decimal, signed_decimal}
+use Rattle.kpn_trace.proofs.Common.{◌++◌, ◌∷◌, decimal, signed_decimal}
 use Rattle.kpn_trace.proofs.Parting.{same_rest}
 use Rattle.kpn_trace.proofs.parts.two_numbers_and_item.Goals as goal
 

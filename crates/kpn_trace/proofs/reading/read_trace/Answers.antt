@@ -1,10 +1,6 @@
 -- The line at which it stops is the first bad one; each other line is that of the event that is pushed for it.
 use Rattle.std.proofs.Common.{◌≡◌, ◌++◌, ◌∷◌, [], All, length, sym, ap, ◌∙◌, subst, arith}
-use Rattle.std.proofs.lemmas.Grind.{common_steps}
-use Rattle.std.proofs.lemmas.Bool.Decides.{nat_tests}
-use Rattle.std.proofs.lemmas.List.Elements.{All-push}
-use Rattle.kpn_trace.specs.EventLine.{IsInRange}
-use Rattle.kpn_trace.specs.TraceText.{trace_text}
+use Rattle.kpn_trace.proofs.Common.{common_steps, nat_tests, All-push, IsInRange, trace_text}
 use Rattle.kpn_trace.proofs.Traces.{one_more_read}
 use Rattle.kpn_trace.proofs.reading.read_trace.Goals as goal
 

@@ -1,7 +1,6 @@
 -- The lines taken off so far are those of the events so far; each turn takes a line off the rest.
 use Rattle.std.proofs.Common.{◌≡◌, ◌++◌, length, All}
-use Rattle.kpn_trace.specs.EventLine.{IsInRange}
-use Rattle.kpn_trace.specs.TraceText.{trace_text}
+use Rattle.kpn_trace.proofs.Common.{IsInRange, trace_text}
 use Rattle.kpn_trace.proofs.reading.read_trace.Given as goal
 
 abbrev pub invariant-loop-rest : goal.invariant-loop-rest

@@ -1,6 +1,5 @@
 -- A number that is 0 or too large is no capacity.
-use Rattle.std.proofs.Common.{◌≡◌, sym, ◌∙◌, arith}
-use Rattle.std.proofs.lemmas.Fmt.{decimal_injective}
+use Rattle.kpn_trace.proofs.Common.{◌≡◌, sym, ◌∙◌, arith, decimal_injective}
 use Rattle.kpn_trace.proofs.words.capacity.Goals as goal
 
 pub returns-then-n-eq0 : goal.returns-then-n-eq0

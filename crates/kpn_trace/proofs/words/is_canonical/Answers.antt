@@ -1,10 +1,6 @@
 -- No zero stands in front of other digits.
-use Rattle.std.proofs.Common.{◌≡◌, get_or, refl, sym, ap, ◌∙◌, subst, arith}
-use Rattle.std.specs.Bool.{IsTrue}
+use Rattle.kpn_trace.proofs.Common.{◌≡◌, get_or, refl, sym, ap, ◌∙◌, subst, arith, IsTrue, ne_eqb, nat_tests, without_minus}
 use Rattle.std.proofs.Math.Bool.{not}
-use Rattle.std.proofs.lemmas.Bool.{ne_eqb}
-use Rattle.std.proofs.lemmas.Bool.Decides.{nat_tests}
-use Rattle.kpn_text_items.specs.ItemLine.{without_minus}
 use Rattle.kpn_trace.proofs.Padding.{canonical}
 use Rattle.kpn_trace.proofs.words.is_canonical.Goals as goal
 

@@ -1,9 +1,5 @@
 -- A number is an item in its canonical form.
-use Rattle.std.proofs.Common.{◌≡◌, to_z, of_z, subst, arith}
-use Rattle.std.specs.Prelude.{ℤ, pos, unsigned_abs}
-use Rattle.std.specs.Int.{w64, FitsUnsignedBits}
-use Rattle.std.specs.Result.{OkIff}
-use Rattle.std.proofs.lemmas.Int.{ints, to_z-of_z}
+use Rattle.kpn_trace.proofs.Common.{◌≡◌, to_z, of_z, subst, arith, ℤ, pos, unsigned_abs, w64, FitsUnsignedBits, OkIff, ints, to_z-of_z}
 use Rattle.kpn_trace.proofs.Parting.{number_read}
 use Rattle.kpn_trace.proofs.words.number.Goals as goal
 

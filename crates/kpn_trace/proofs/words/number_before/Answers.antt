@@ -1,6 +1,5 @@
 -- What comes before the first space is no number.
-use Rattle.std.proofs.Common.{sym, ◌∙◌, arith}
-use Rattle.std.specs.Fmt.{decimal}
+use Rattle.kpn_trace.proofs.Common.{sym, ◌∙◌, arith, decimal}
 use Rattle.kpn_trace.proofs.Parting.{cut, decimal_lacks}
 use Rattle.kpn_trace.proofs.words.number_before.Goals as goal
 

@@ -1,12 +1,5 @@
 -- One more line is written; at the end they are all.
-use Rattle.std.proofs.Common.{◌+◌, take, append-nil, sym, ◌∙◌, subst, arith}
-use Rattle.std.proofs.lemmas.List.{take_all}
-use Rattle.std.specs.Bool.{IsTrue}
-use Rattle.std.specs.Io.KnownBytes.{Appends}
-use Rattle.std.proofs.lemmas.Option.{slice_get-get_or}
-use Rattle.kpn_history.specs.declared.event.Event.TheVariants.{Close}
-use Rattle.kpn_history.specs.declared.stored.Version.TheVariants.{Two}
-use Rattle.kpn_trace.specs.TraceText.{head_text, trace_text}
+use Rattle.kpn_trace.proofs.Common.{◌+◌, take, append-nil, sym, ◌∙◌, subst, arith, take_all, IsTrue, Appends, slice_get-get_or, Close, Two, head_text, trace_text}
 use Rattle.kpn_trace.proofs.Traces.{one_more_written}
 use Rattle.kpn_trace.proofs.writing.write_trace.Goals as goal
 use Rattle.kpn_trace.proofs.writing.write_trace.Goals.{in-Some+in_ok-event_line, in_default}

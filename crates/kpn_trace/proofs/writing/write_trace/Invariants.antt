@@ -1,8 +1,5 @@
 -- The writer has taken the first line and the lines of the events before the place.
-use Rattle.std.proofs.Common.{take}
-use Rattle.std.specs.Io.KnownBytes.{Appends}
-use Rattle.kpn_history.specs.declared.stored.Version.TheVariants.{Two}
-use Rattle.kpn_trace.specs.TraceText.{trace_text}
+use Rattle.kpn_trace.proofs.Common.{take, Appends, Two, trace_text}
 use Rattle.kpn_trace.proofs.writing.write_trace.Given as goal
 
 abbrev pub invariant-loop-place : goal.invariant-loop-place

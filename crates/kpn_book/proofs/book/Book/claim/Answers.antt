@@ -1,8 +1,4 @@
-use Rattle.std.proofs.Common.{◌≡◌, ◌≤◌, false, length, sym, subst, arith}
-use Rattle.kpn_net.specs.Tables.{any_has_cells}
-use Rattle.kpn_step.specs.Frame.{Frame}
-use Rattle.kpn_book.specs.Book.{Book}
-use Rattle.kpn_book.specs.Open.{book_of}
+use Rattle.kpn_book.proofs.Common.{◌≡◌, ◌≤◌, false, length, sym, subst, arith, any_has_cells, Frame, Book, book_of}
 use Rattle.kpn_book.proofs.Plain.{few_values}
 use Rattle.kpn_book.proofs.book.Book.claim.Goals as goal
 

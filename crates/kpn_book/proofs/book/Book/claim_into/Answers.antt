@@ -1,7 +1,4 @@
-use Rattle.std.proofs.Common.{subst}
-use Rattle.std.proofs.lemmas.Bool.{false≢true}
-use Rattle.kpn_book.specs.Book.{IsClaimed}
-use Rattle.kpn_book.specs.Open.{book_of}
+use Rattle.kpn_book.proofs.Common.{subst, false≢true, IsClaimed, book_of}
 use Rattle.kpn_book.proofs.book.Book.claim_into.Goals as goal
 
 pub returns-clause-claimed : goal.returns-clause-claimed

@@ -1,8 +1,4 @@
-use Rattle.std.proofs.Common.{◌≡◌, ◌<◌, true, false, length, IfOk, ap, sym, ◌∙◌, subst}
-use Rattle.std.specs.Prelude.{OnErr}
-use Rattle.kpn_book.specs.Book.{Book}
-use Rattle.kpn_book.specs.Open.{book_of}
-use Rattle.kpn_book.specs.RegionClaims.{ClaimsRegion, RefusesClaim, IsSameBook}
+use Rattle.kpn_book.proofs.Common.{◌≡◌, ◌<◌, true, false, length, IfOk, ap, sym, ◌∙◌, subst, OnErr, Book, book_of, ClaimsRegion, RefusesClaim, IsSameBook}
 use Rattle.kpn_book.proofs.book.Book.claim_region.Goals as goal
 
 pub claim_region-requires-clause-tables : goal.claim_region-requires-clause-tables

@@ -1,9 +1,5 @@
-use Rattle.std.proofs.Common.{◌≡◌, true, false, refl, subst, rules, sym}
-use Rattle.kpn_net.specs.Tables.{channel_at, is_source}
+use Rattle.kpn_book.proofs.Common.{◌≡◌, true, false, refl, subst, rules, sym, channel_at, is_source, closed_in, Closes, book_of}
 use Rattle.kpn_history.specs.declared.event.Event.TheVariants as event
-use Rattle.kpn_machine.specs.Machine.{closed_in}
-use Rattle.kpn_book.specs.Refusals.{Closes}
-use Rattle.kpn_book.specs.Open.{book_of}
 use Rattle.kpn_book.proofs.Following.{recorded}
 use Rattle.kpn_book.proofs.Answering.{no_cycle_then, happens}
 use Rattle.kpn_book.proofs.Committing.{kept_grown, source_there}

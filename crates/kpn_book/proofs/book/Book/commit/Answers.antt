@@ -1,8 +1,5 @@
 use Rattle.std.proofs.Common.{◌≡◌, sym, ap, subst, ◌∙◌, IfOk, IfErr}
-use Rattle.kpn_net.specs.Tables.{program_of}
-use Rattle.kpn_step.specs.Stops.{IsAdvance, IsAtPort, advanced_of}
-use Rattle.kpn_book.specs.Commits.{Commits}
-use Rattle.kpn_book.specs.Refusals.{RefusesCommit}
+use Rattle.kpn_book.proofs.Common.{program_of, IsAdvance, IsAtPort, advanced_of, Commits, RefusesCommit}
 use Rattle.kpn_book.proofs.Committing.{advance_is}
 use Rattle.kpn_book.proofs.book.Book.commit.Given as given
 use Rattle.kpn_book.proofs.book.Book.commit.Goals as goal

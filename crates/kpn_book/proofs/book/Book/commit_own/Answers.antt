@@ -1,14 +1,4 @@
-use Rattle.std.proofs.Common.{◌≡◌, ℕ, ◌+◌, ◌<◌, ◌^◌, refl, sym, ap, ◌∙◌, subst, rules, IsTrue}
-use Rattle.kpn_net.specs.Tables.{program_of}
-use Rattle.kpn_step.specs.Frame.{Frame}
-use Rattle.kpn_step.specs.declared.stop.Stop.{Stop}
-use Rattle.kpn_step.specs.Stops.{IsAdvance, IsAtPort, advanced_of}
-use Rattle.kpn_machine.specs.Machine.{channel_in, frame_in}
-use Rattle.kpn_machine.proofs.Moving.{advanced_as}
-use Rattle.kpn_book.specs.Book.{Book}
-use Rattle.kpn_book.specs.Commits.{IsOwnAdvance, Commits}
-use Rattle.kpn_book.specs.Kept.{IsKept}
-use Rattle.kpn_book.specs.Open.{book_of}
+use Rattle.kpn_book.proofs.Common.{◌≡◌, ℕ, ◌+◌, ◌<◌, ◌^◌, refl, sym, ap, ◌∙◌, subst, rules, IsTrue, program_of, Frame, Stop, IsAdvance, IsAtPort, advanced_of, channel_in, frame_in, advanced_as, Book, IsOwnAdvance, Commits, IsKept, book_of}
 use Rattle.kpn_book.proofs.Following.{moved}
 use Rattle.kpn_book.proofs.Answering.{IsAtStop, is_counted}
 use Rattle.kpn_book.proofs.Committing.{own_reserved, port_reserved, goes_to_stop, kept_reserved}

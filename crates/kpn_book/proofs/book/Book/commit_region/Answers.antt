@@ -1,8 +1,5 @@
-use Rattle.std.proofs.Common.{◌≡◌, IfOk, ap, sym, ◌∙◌, subst}
+use Rattle.kpn_book.proofs.Common.{◌≡◌, IfOk, ap, sym, ◌∙◌, subst, Book, book_of, CommitsRegion, RefusesRegion}
 use Rattle.std.specs.Prelude.{OnErr, IfErr}
-use Rattle.kpn_book.specs.Book.{Book}
-use Rattle.kpn_book.specs.Open.{book_of}
-use Rattle.kpn_book.specs.RegionCalls.{CommitsRegion, RefusesRegion}
 use Rattle.kpn_book.proofs.book.Book.commit_region.Goals as goal
 
 pub commit_region-requires-clause-tables : goal.commit_region-requires-clause-tables

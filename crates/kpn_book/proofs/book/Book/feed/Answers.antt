@@ -1,12 +1,5 @@
-use Rattle.std.proofs.Common.{◌<◌, length, refl, sym, ap, subst, ◌∙◌, ◌∷◌, ◌++◌, [], arith, w64, SFits, to_z, of_z, rules, IsTrue}
-use Rattle.std.proofs.lemmas.Int.{to_z-of_z}
-use Rattle.std.specs.Option.{option_to_list}
+use Rattle.kpn_book.proofs.Common.{◌<◌, length, refl, sym, ap, subst, ◌∙◌, ◌∷◌, ◌++◌, [], arith, w64, SFits, to_z, of_z, rules, IsTrue, to_z-of_z, option_to_list, Changes, IsKept, AcceptsItem, Feeds, book_of, channel_in}
 use Rattle.kpn_history.specs.declared.event.Event.TheVariants as event
-use Rattle.kpn_machine.specs.Changes.{Changes}
-use Rattle.kpn_book.specs.Kept.{IsKept}
-use Rattle.kpn_book.specs.Refusals.{AcceptsItem, Feeds}
-use Rattle.kpn_book.specs.Open.{book_of}
-use Rattle.kpn_machine.specs.Machine.{channel_in}
 use Rattle.kpn_book.proofs.Reserved.{is_reserved_here}
 use Rattle.kpn_book.proofs.Following.{own_none, may_be_woken, channel_fits, recorded, moved}
 use Rattle.kpn_book.proofs.Committing.{kept_outside, source_there}

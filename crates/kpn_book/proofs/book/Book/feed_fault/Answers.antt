@@ -1,5 +1,4 @@
-use Rattle.std.proofs.Common.{sym}
-use Rattle.kpn_book.specs.Open.{book_of}
+use Rattle.kpn_book.proofs.Common.{sym, book_of}
 use Rattle.kpn_book.proofs.Committing.{source_there}
 use Rattle.kpn_book.proofs.Outside.{in_channels, in_closed}
 use Rattle.kpn_book.proofs.book.Book.feed_fault.Goals as goal

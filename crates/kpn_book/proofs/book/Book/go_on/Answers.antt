@@ -1,8 +1,4 @@
-use Rattle.std.proofs.Common.{◌+◌, ◌<◌, ◌^◌, sym, subst, IfOk}
-use Rattle.std.specs.Prelude.{OnErr}
-use Rattle.kpn_book.specs.Book.{Book, held_count}
-use Rattle.kpn_book.specs.GoingOn.{RunsInAnyOrder, AnyOrderInVain}
-use Rattle.kpn_book.specs.Open.{book_of}
+use Rattle.kpn_book.proofs.Common.{◌+◌, ◌<◌, ◌^◌, sym, subst, IfOk, OnErr, Book, held_count, RunsInAnyOrder, AnyOrderInVain, book_of}
 use Rattle.kpn_book.proofs.book.Book.go_on.Goals as goal
 
 pub go_on-requires-clause-countable : goal.go_on-requires-clause-countable

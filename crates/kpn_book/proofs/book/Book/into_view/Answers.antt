@@ -1,9 +1,5 @@
-use Rattle.std.proofs.Common.{sym, ◌∙◌, subst}
-use Rattle.kpn_chan.specs.Channel.{ChannelState}
-use Rattle.kpn_history.specs.Views.{Agrees}
-use Rattle.kpn_book.specs.Open.{book_of}
+use Rattle.kpn_book.proofs.Common.{sym, ◌∙◌, subst, ChannelState, Agrees, book_of, by_number}
 use Rattle.kpn_book.proofs.Agreeing.{Agrees-of}
-use Rattle.kpn_machine.proofs.Numbered.{by_number}
 use Rattle.kpn_book.proofs.book.Book.into_view.Goals as goal
 
 pub returns-clause-agrees : goal.returns-clause-agrees

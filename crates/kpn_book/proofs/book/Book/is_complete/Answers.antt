@@ -1,6 +1,4 @@
-use Rattle.std.proofs.Common.{◌↔◌, IsTrue, subst}
-use Rattle.kpn_history.specs.Complete.{IsComplete}
-use Rattle.kpn_book.specs.Open.{book_of}
+use Rattle.kpn_book.proofs.Common.{◌↔◌, IsTrue, subst, IsComplete, book_of}
 use Rattle.kpn_book.proofs.book.Book.is_complete.Goals as goal
 
 pub returns : goal.returns

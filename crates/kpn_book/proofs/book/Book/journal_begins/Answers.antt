@@ -1,6 +1,4 @@
-use Rattle.std.proofs.Common.{ap, sym, subst, ◌∙◌}
-use Rattle.kpn_lang.specs.Prefix.{IsPrefix}
-use Rattle.kpn_machine.specs.Machine.{channel_in}
+use Rattle.kpn_book.proofs.Common.{ap, sym, subst, ◌∙◌, IsPrefix, channel_in}
 use Rattle.kpn_book.proofs.Journals.{prefix_from_take, take_from_prefix}
 use Rattle.kpn_book.proofs.book.Book.journal_begins.Goals as goal
 

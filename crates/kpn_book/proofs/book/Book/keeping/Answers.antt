@@ -1,6 +1,4 @@
-use Rattle.std.proofs.Common.{refl, ap, ◌∙◌}
-use Rattle.kpn_book.specs.Schedule.{all_ready}
-use Rattle.kpn_book.specs.Book.{Book}
+use Rattle.kpn_book.proofs.Common.{refl, ap, ◌∙◌, all_ready, Book}
 use Rattle.kpn_book.proofs.Starting.{kept_at_start}
 use Rattle.kpn_book.proofs.book.Book.keeping.Goals as goal
 

@@ -1,9 +1,5 @@
-use Rattle.std.proofs.Common.{◌≡◌, true, false, refl, subst, rules, sym}
-use Rattle.kpn_net.specs.Tables.{channel_at, is_sink}
+use Rattle.kpn_book.proofs.Common.{◌≡◌, true, false, refl, subst, rules, sym, channel_at, is_sink, channel_in, Leaves, book_of}
 use Rattle.kpn_history.specs.declared.event.Event.TheVariants as event
-use Rattle.kpn_machine.specs.Machine.{channel_in}
-use Rattle.kpn_book.specs.Refusals.{Leaves}
-use Rattle.kpn_book.specs.Open.{book_of}
 use Rattle.kpn_net.proofs.Networks.{sink_there}
 use Rattle.kpn_book.proofs.Following.{recorded}
 use Rattle.kpn_book.proofs.Answering.{no_cycle_then, happens}

@@ -1,9 +1,6 @@
-use Rattle.std.proofs.Common.{◌≡◌, ℕ, ◌+◌, ◌*◌, ◌≤◌, max, Option, None, Some, refl, ap, ◌∙◌, arith, subst}
-use Rattle.std.specs.Option.{unwrap_or}
+use Rattle.kpn_book.proofs.Common.{◌≡◌, ℕ, ◌+◌, ◌*◌, ◌≤◌, max, Option, None, Some, refl, ap, ◌∙◌, arith, subst, unwrap_or, channel_in, IsKept}
 use Rattle.kpn_chan.specs.declared.channel.TheConstants.{FIRST_PLACES}
 use Rattle.kpn_chan.specs.declared.chunks.TheConstants.{CHUNK}
-use Rattle.kpn_machine.specs.Machine.{channel_in}
-use Rattle.kpn_book.specs.Kept.{IsKept}
 use Rattle.kpn_book.proofs.book.Book.places.Goals as goal
 
 within : (most : ℕ) (capacity : Option ℕ) → ((cap : ℕ) → capacity ≡ Some cap → most ≤ cap)

@@ -1,7 +1,4 @@
-use Rattle.std.proofs.Common.{sym, ap, subst, rules}
-use Rattle.kpn_book.specs.Book.{IsHeld}
-use Rattle.kpn_book.specs.Kept.{IsKept}
-use Rattle.kpn_book.specs.Open.{book_of}
+use Rattle.kpn_book.proofs.Common.{sym, ap, subst, rules, IsHeld, IsKept, book_of}
 use Rattle.kpn_book.proofs.Following.{moved}
 use Rattle.kpn_book.proofs.Committing.{kept_put_back}
 use Rattle.kpn_book.proofs.book.Book.put_back.Goals as goal

@@ -1,9 +1,4 @@
-use Rattle.std.proofs.Common.{length, ap, sym, ◌∙◌, subst}
-use Rattle.std.specs.List.{range_with_len}
-use Rattle.kpn_region.specs.Local.{is_in_region}
-use Rattle.kpn_book.specs.Kept.{IsKept}
-use Rattle.kpn_book.specs.Open.{book_of}
-use Rattle.kpn_book.specs.Regions.{batch_put_back}
+use Rattle.kpn_book.proofs.Common.{length, ap, sym, ◌∙◌, subst, range_with_len, is_in_region, IsKept, book_of, batch_put_back}
 use Rattle.kpn_book.proofs.Following.{moved}
 use Rattle.kpn_book.proofs.Regions.{kept_all_put_back}
 use Rattle.kpn_book.proofs.book.Book.put_back_region.Goals as goal

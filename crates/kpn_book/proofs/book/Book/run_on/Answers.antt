@@ -1,8 +1,4 @@
-use Rattle.std.proofs.Common.{◌+◌, ◌<◌, ◌^◌, sym, subst, IfOk}
-use Rattle.std.specs.Prelude.{OnErr}
-use Rattle.kpn_book.specs.Book.{Book, held_count}
-use Rattle.kpn_book.specs.InARow.{RunsInRow, RunsInVain}
-use Rattle.kpn_book.specs.Open.{book_of}
+use Rattle.kpn_book.proofs.Common.{◌+◌, ◌<◌, ◌^◌, sym, subst, IfOk, OnErr, Book, held_count, RunsInRow, RunsInVain, book_of}
 use Rattle.kpn_book.proofs.book.Book.run_on.Goals as goal
 
 pub run_on-requires-clause-countable : goal.run_on-requires-clause-countable

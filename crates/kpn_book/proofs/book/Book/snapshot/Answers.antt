@@ -1,8 +1,5 @@
 -- What is copied agrees with the history, and what a view that agrees shows.
-use Rattle.std.proofs.Common.{◌≡◌, subst, sym}
-use Rattle.kpn_history.specs.Views.{Agrees}
-use Rattle.kpn_machine.specs.Machine.{AreKept}
-use Rattle.kpn_book.specs.Open.{book_of}
+use Rattle.kpn_book.proofs.Common.{◌≡◌, subst, sym, Agrees, AreKept, book_of}
 use Rattle.kpn_book.proofs.Agreeing.{Agrees-of}
 use Rattle.kpn_book.proofs.Snapshots.{run_shown, below_shown, at_rest_shown}
 use Rattle.kpn_book.proofs.book.Book.snapshot.Goals as goal

@@ -1,10 +1,4 @@
-use Rattle.std.proofs.Common.{◌+◌, ◌<◌, ◌^◌, refl, sym, ap, ◌∙◌, subst, rules}
-use Rattle.kpn_net.specs.Tables.{program_of}
-use Rattle.kpn_step.specs.Stops.{advanced_of}
-use Rattle.kpn_machine.specs.Machine.{frame_in}
-use Rattle.kpn_book.specs.Book.{put_back}
-use Rattle.kpn_book.specs.Kept.{IsKept}
-use Rattle.kpn_book.specs.Open.{book_of}
+use Rattle.kpn_book.proofs.Common.{◌+◌, ◌<◌, ◌^◌, refl, sym, ap, ◌∙◌, subst, rules, program_of, advanced_of, frame_in, put_back, IsKept, book_of}
 use Rattle.kpn_book.proofs.Following.{moved}
 use Rattle.kpn_book.proofs.Answering.{is_counted}
 use Rattle.kpn_book.proofs.Committing.{port_reserved, kept_put_back, HasStepped, has_stepped}

@@ -1,8 +1,5 @@
-use Rattle.std.proofs.Common.{◌≡◌, false, refl, subst, rules}
-use Rattle.std.proofs.lemmas.Bool.{both_ways}
-use Rattle.kpn_history.specs.Ends.{IsSettled, IsVerdict}
+use Rattle.kpn_book.proofs.Common.{◌≡◌, false, refl, subst, rules, both_ways, IsSettled, IsVerdict, book_of}
 use Rattle.kpn_machine.proofs.Settling.{verdict_now}
-use Rattle.kpn_book.specs.Open.{book_of}
 use Rattle.kpn_book.proofs.Seen.{not_settled}
 use Rattle.kpn_book.proofs.book.Book.verdict.Goals as goal
 

@@ -1,8 +1,4 @@
-use Rattle.std.proofs.Common.{◌≡◌, true, false, length, sym, ap, subst, rules}
-use Rattle.std.proofs.lemmas.Bool.{both_ways, false≢true}
-use Rattle.kpn_machine.specs.Machine.{IsMachine}
-use Rattle.kpn_book.specs.Open.{book_of}
-use Rattle.kpn_book.specs.RegionCalls.{CanCount}
+use Rattle.kpn_book.proofs.Common.{◌≡◌, true, false, length, sym, ap, subst, rules, both_ways, false≢true, IsMachine, book_of, CanCount}
 use Rattle.kpn_book.proofs.open_book.OpenBook.can_join.Goals as goal
 
 pub agrees_with-requires : goal.agrees_with-requires

@@ -1,11 +1,4 @@
-use Rattle.std.proofs.Common.{◌≡◌, ◌+◌, ◌<◌, ◌^◌, true, length, sym, ◌∙◌, subst, arith, rules}
-use Rattle.kpn_net.specs.Faults.{IsNetwork}
-use Rattle.kpn_region.specs.Local.{is_in_region}
-use Rattle.kpn_book.specs.Kept.{IsKept}
-use Rattle.kpn_book.specs.Open.{book_of}
-use Rattle.kpn_book.specs.Regions.{batch_held}
-use Rattle.kpn_book.specs.RegionClaims.{ClaimsRegion}
-use Rattle.kpn_book.specs.ClaimParts.{HasProcesses}
+use Rattle.kpn_book.proofs.Common.{◌≡◌, ◌+◌, ◌<◌, ◌^◌, true, length, sym, ◌∙◌, subst, arith, rules, IsNetwork, is_in_region, IsKept, book_of, batch_held, ClaimsRegion, HasProcesses}
 use Rattle.kpn_book.proofs.Following.{moved}
 use Rattle.kpn_book.proofs.Regions.{kept_region_held}
 use Rattle.kpn_book.proofs.Claiming.{kept_with_room, region_claimed}

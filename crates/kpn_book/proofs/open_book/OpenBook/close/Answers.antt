@@ -1,7 +1,5 @@
-use Rattle.std.proofs.Common.{refl, ap, []}
+use Rattle.kpn_book.proofs.Common.{refl, ap, [], Legal-due, book_of}
 use Rattle.kpn_history.specs.declared.event.Event.TheVariants as event
-use Rattle.kpn_machine.proofs.Due.{Legal-due}
-use Rattle.kpn_book.specs.Open.{book_of}
 use Rattle.kpn_book.proofs.Following.{own_none, followed, channel_fits}
 use Rattle.kpn_book.proofs.Committing.{source_there}
 use Rattle.kpn_book.proofs.open_book.OpenBook.close.Goals as goal

@@ -1,7 +1,4 @@
-use Rattle.std.proofs.Common.{◌+◌, ◌<◌, ◌^◌, sym, ap, ◌∙◌, subst, rules}
-use Rattle.kpn_book.specs.Book.{put_back}
-use Rattle.kpn_book.specs.Kept.{IsKept}
-use Rattle.kpn_book.specs.Open.{book_of}
+use Rattle.kpn_book.proofs.Common.{◌+◌, ◌<◌, ◌^◌, sym, ap, ◌∙◌, subst, rules, put_back, IsKept, book_of}
 use Rattle.kpn_book.proofs.Following.{held_is_there, moved}
 use Rattle.kpn_book.proofs.Answering.{is_counted}
 use Rattle.kpn_book.proofs.Committing.{port_reserved, kept_put_back}

@@ -1,5 +1,4 @@
-use Rattle.std.proofs.Common.{◌≡◌, false, rules}
-use Rattle.std.proofs.lemmas.Bool.{both_ways}
+use Rattle.kpn_book.proofs.Common.{◌≡◌, false, rules, both_ways}
 use Rattle.kpn_book.proofs.open_book.OpenBook.commit_region.Goals as goal
 
 pub returns-then-not-can_join-clause-refused : goal.returns-then-not-can_join-clause-refused

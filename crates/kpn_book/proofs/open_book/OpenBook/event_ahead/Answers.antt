@@ -1,15 +1,5 @@
-use Rattle.std.proofs.Common.{◌≡◌, ◌≢◌, ◌+◌, ◌<◌, ◌^◌, ℕ, false, slice_get, Option, Some, None, refl, sym, ap, subst, ◌∙◌, arith, rules}
-use Rattle.kpn_net.specs.Tables.{program_of}
+use Rattle.kpn_book.proofs.Common.{◌≡◌, ◌≢◌, ◌+◌, ◌<◌, ◌^◌, ℕ, false, slice_get, Option, Some, None, refl, sym, ap, subst, ◌∙◌, arith, rules, program_of, Advanced, IsAtPort, advanced_of, Frame, frame_in, Schedule, HoldsFirst, first_held, made_ready, Book, with_one_commit, IsKept, IsBook, StepsUncommitted, IsReordered, book_of, first_claimed, HandlesFirst, HandlesAhead, IsTurnAhead, GoesFurther}
 use Rattle.kpn_step.specs.declared.stop.Stop.TheVariants.{Paused}
-use Rattle.kpn_step.specs.Stops.{Advanced, IsAtPort, advanced_of}
-use Rattle.kpn_step.specs.Frame.{Frame}
-use Rattle.kpn_machine.specs.Machine.{frame_in}
-use Rattle.kpn_book.specs.Schedule.{Schedule, HoldsFirst, first_held, made_ready}
-use Rattle.kpn_book.specs.Book.{Book, with_one_commit}
-use Rattle.kpn_book.specs.Kept.{IsKept, IsBook}
-use Rattle.kpn_book.specs.InARow.{StepsUncommitted}
-use Rattle.kpn_book.specs.GoingOn.{IsReordered}
-use Rattle.kpn_book.specs.Open.{book_of, first_claimed, HandlesFirst, HandlesAhead, IsTurnAhead, GoesFurther}
 use Rattle.kpn_book.proofs.Following.{moved}
 use Rattle.kpn_book.proofs.FirstOfQueue.{holds_first, first_kept, kept_in_vain, turn_in_vain, refused_with, turn_fits, turn_made}
 use Rattle.kpn_book.proofs.GoingOn.{goes_back, ahead_made, ahead_schedule, ahead_first, ahead_fits, no_sink, further_on, over_at_sink, over_filled, over_committed, over_idly}

@@ -1,17 +1,7 @@
-use Rattle.std.proofs.Common.{◌≡◌, true, refl, sym, subst, ◌∙◌, inl, arith, w64, SFits, rules, to_z, of_z}
-use Rattle.std.proofs.lemmas.Int.{to_z-of_z}
-use Rattle.std.proofs.lemmas.List.Elements.{Contains-get_or}
+use Rattle.kpn_book.proofs.Common.{◌≡◌, true, refl, sym, subst, ◌∙◌, inl, arith, w64, SFits, rules, to_z, of_z, to_z-of_z, Contains-get_or, option_to_list, instance_at, program_of, IsInstance-of, out_is_there, IsAtPort, first_held, made_ready, IsReadFrom, IsWriteTo, book_of, first_claimed, with_ready, Answered, MayCommit}
 use Rattle.std.specs.List.{Contains}
-use Rattle.std.specs.Option.{option_to_list}
-use Rattle.kpn_net.specs.Tables.{instance_at, program_of}
-use Rattle.kpn_net.proofs.Networks.{IsInstance-of}
-use Rattle.kpn_net.proofs.PortsApart.{out_is_there}
-use Rattle.kpn_step.specs.Stops.{IsAtPort}
-use Rattle.kpn_book.specs.Schedule.{first_held, made_ready}
 use Rattle.kpn_book.specs.declared.answers.Done.TheVariants as done
 use Rattle.kpn_book.specs.declared.open_book.Hold.TheVariants as hold
-use Rattle.kpn_book.specs.Commits.{IsReadFrom, IsWriteTo}
-use Rattle.kpn_book.specs.Open.{book_of, first_claimed, with_ready, Answered, MayCommit}
 use Rattle.kpn_book.proofs.Following.{held_is_there}
 use Rattle.kpn_book.proofs.Committing.{reads_from, writes_to}
 use Rattle.kpn_book.proofs.Answering.{asked_otherwise}

@@ -1,7 +1,5 @@
-use Rattle.std.proofs.Common.{refl, ap, ◌∙◌, arith}
+use Rattle.kpn_book.proofs.Common.{refl, ap, ◌∙◌, arith, Legal-due, book_of, held_by, Follows}
 use Rattle.kpn_history.specs.declared.event.Event.TheVariants as event
-use Rattle.kpn_machine.proofs.Due.{Legal-due}
-use Rattle.kpn_book.specs.Open.{book_of, held_by, Follows}
 use Rattle.kpn_book.proofs.Following.{own_held, held_is_there, held_is_free, may_be_woken, followed, recorded, process_fits}
 use Rattle.kpn_book.proofs.Answering.{no_cycle_then, answered_ended}
 use Rattle.kpn_book.proofs.FirstOfQueue.{held_so}

@@ -1,10 +1,5 @@
-use Rattle.std.proofs.Common.{sym, ap, ◌∙◌, subst, arith}
-use Rattle.std.specs.Option.{option_to_list}
-use Rattle.kpn_machine.proofs.Ports.{reads_below}
-use Rattle.kpn_book.specs.Schedule.{first_held, made_ready}
-use Rattle.kpn_book.specs.Appending.{all_made_ready}
+use Rattle.kpn_book.proofs.Common.{sym, ap, ◌∙◌, subst, arith, option_to_list, reads_below, first_held, made_ready, all_made_ready, book_of, held_by, MayBeReady}
 use Rattle.kpn_book.specs.declared.open_book.Hold.TheVariants as hold
-use Rattle.kpn_book.specs.Open.{book_of, held_by, MayBeReady}
 use Rattle.kpn_book.proofs.Following.{held_is_there}
 use Rattle.kpn_book.proofs.FirstOfQueue.{held_so}
 use Rattle.kpn_book.proofs.GoingOn.{stays, may_stay}

@@ -1,12 +1,5 @@
-use Rattle.std.proofs.Common.{refl, ap, ◌∙◌, arith, w64, SFits, to_z, of_z, rules}
-use Rattle.std.proofs.lemmas.Int.{to_z-of_z}
-use Rattle.std.specs.Option.{option_to_list}
+use Rattle.kpn_book.proofs.Common.{refl, ap, ◌∙◌, arith, w64, SFits, to_z, of_z, rules, to_z-of_z, option_to_list, reads_below, Legal-due, made_ready, all_made_ready, book_of, held_by}
 use Rattle.kpn_history.specs.declared.event.Event.TheVariants as event
-use Rattle.kpn_machine.proofs.Ports.{reads_below}
-use Rattle.kpn_machine.proofs.Due.{Legal-due}
-use Rattle.kpn_book.specs.Schedule.{made_ready}
-use Rattle.kpn_book.specs.Appending.{all_made_ready}
-use Rattle.kpn_book.specs.Open.{book_of, held_by}
 use Rattle.kpn_book.proofs.Following.{own_held, held_is_there, held_is_free, may_be_woken, followed, recorded, process_fits, channel_fits}
 use Rattle.kpn_book.proofs.Answering.{answered_got}
 use Rattle.kpn_book.proofs.FirstOfQueue.{held_so}

@@ -1,8 +1,5 @@
-use Rattle.std.proofs.Common.{◌≡◌, false, [], refl, sym, ap, ◌∙◌, arith, inl, inr, rules}
-use Rattle.std.proofs.lemmas.Bool.{cases_eq}
+use Rattle.kpn_book.proofs.Common.{◌≡◌, false, [], refl, sym, ap, ◌∙◌, arith, inl, inr, rules, cases_eq, held_count, book_of}
 use Rattle.kpn_book.specs.GoingOn.{no_turn}
-use Rattle.kpn_book.specs.Book.{held_count}
-use Rattle.kpn_book.specs.Open.{book_of}
 use Rattle.kpn_book.proofs.Following.{recorded, same_recorded}
 use Rattle.kpn_book.proofs.FirstOfQueue.{no_first, refused_with}
 use Rattle.kpn_book.proofs.GoingOn.{goes_then, goes_none, goes_within, goes_some, vain_then}

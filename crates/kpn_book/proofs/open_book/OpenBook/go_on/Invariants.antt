@@ -1,8 +1,4 @@
-use Rattle.std.proofs.Common.{◌≡◌, ◌-◌, ◌≤◌, None}
-use Rattle.kpn_book.specs.Book.{held_count}
-use Rattle.kpn_book.specs.Kept.{IsKept}
-use Rattle.kpn_book.specs.GoingOn.{TurnsInAnyOrder}
-use Rattle.kpn_book.specs.Open.{book_of}
+use Rattle.kpn_book.proofs.Common.{◌≡◌, ◌-◌, ◌≤◌, None, held_count, IsKept, TurnsInAnyOrder, book_of}
 use Rattle.kpn_book.proofs.open_book.OpenBook.go_on.Given as goal
 
 abbrev pub invariant-turns : goal.invariant-turns

@@ -1,9 +1,5 @@
-use Rattle.std.proofs.Common.{◌≡◌, ℕ, refl, ap, ◌∙◌, subst}
-use Rattle.std.specs.Option.{option_to_list}
+use Rattle.kpn_book.proofs.Common.{◌≡◌, ℕ, refl, ap, ◌∙◌, subst, option_to_list, owed_below, Legal-grown, Book, book_of, Follows}
 use Rattle.kpn_history.specs.declared.event.Event.TheVariants as event
-use Rattle.kpn_machine.proofs.Growing.{owed_below, Legal-grown}
-use Rattle.kpn_book.specs.Book.{Book}
-use Rattle.kpn_book.specs.Open.{book_of, Follows}
 use Rattle.kpn_book.proofs.Following.{own_none, may_be_woken, followed, process_fits, channel_fits}
 use Rattle.kpn_book.proofs.open_book.OpenBook.grow.Goals as goal
 

@@ -1,6 +1,4 @@
-use Rattle.std.proofs.Common.{◌≡◌, false, rules}
-use Rattle.std.proofs.lemmas.Bool.{both_ways}
-use Rattle.kpn_book.specs.Open.{book_of}
+use Rattle.kpn_book.proofs.Common.{◌≡◌, false, rules, both_ways, book_of}
 use Rattle.kpn_book.proofs.Answering.{none_at_stop}
 use Rattle.kpn_book.proofs.Seen.{not_settled}
 use Rattle.kpn_book.proofs.open_book.OpenBook.grow_at_stop.Goals as goal

@@ -1,5 +1,4 @@
-use Rattle.std.proofs.Common.{◌≡◌, rules}
-use Rattle.kpn_book.specs.Open.{book_of}
+use Rattle.kpn_book.proofs.Common.{◌≡◌, rules, book_of}
 use Rattle.kpn_book.proofs.Answering.{owes_found, owes_none, has_grown}
 use Rattle.kpn_book.proofs.Seen.{nothing_to_grow}
 use Rattle.kpn_book.proofs.open_book.OpenBook.grow_if_owed.Goals as goal

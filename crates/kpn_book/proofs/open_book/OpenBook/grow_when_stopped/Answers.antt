@@ -1,5 +1,4 @@
-use Rattle.std.proofs.Common.{inr}
-use Rattle.kpn_book.specs.Open.{book_of}
+use Rattle.kpn_book.proofs.Common.{inr, book_of}
 use Rattle.kpn_book.proofs.Answering.{none_at_stop, has_grown_at_stop}
 use Rattle.kpn_book.proofs.open_book.OpenBook.grow_when_stopped.Goals as goal
 

@@ -1,17 +1,6 @@
-use Rattle.std.proofs.Common.{◌≡◌, ◌<◌, length, IsTrue, refl, sym, ap, subst, ◌∙◌, inl, inr, arith, w64, SFits, rules, to_z, of_z}
-use Rattle.std.proofs.lemmas.Int.{to_z-of_z}
-use Rattle.std.proofs.lemmas.List.Elements.{Contains-get_or}
+use Rattle.kpn_book.proofs.Common.{◌≡◌, ◌<◌, length, IsTrue, refl, sym, ap, subst, ◌∙◌, inl, inr, arith, w64, SFits, rules, to_z, of_z, to_z-of_z, Contains-get_or, instance_at, program_of, IsInstance-of, out_is_there, IsAtPort, channel_in, WritesTo, IsWriteTo, book_of, first_claimed, reserved_on, sink_by, Answered, AnsweredFirst, IsSound, IsKept}
 use Rattle.std.specs.List.{Contains}
-use Rattle.kpn_net.specs.Tables.{instance_at, program_of}
-use Rattle.kpn_net.proofs.Networks.{IsInstance-of}
-use Rattle.kpn_net.proofs.PortsApart.{out_is_there}
-use Rattle.kpn_step.specs.Stops.{IsAtPort}
-use Rattle.kpn_machine.specs.Machine.{channel_in}
-use Rattle.kpn_machine.specs.Due.{WritesTo}
 use Rattle.kpn_book.specs.declared.answers.Done.TheVariants as done
-use Rattle.kpn_book.specs.Commits.{IsWriteTo}
-use Rattle.kpn_book.specs.Open.{book_of, first_claimed, reserved_on, sink_by, Answered, AnsweredFirst, IsSound}
-use Rattle.kpn_book.specs.Kept.{IsKept}
 use Rattle.kpn_book.proofs.Following.{held_is_there, moved}
 use Rattle.kpn_book.proofs.Committing.{no_pause, kept_reserved_on, writes_to}
 use Rattle.kpn_book.proofs.Reserved.{is_reserved_here}

@@ -1,16 +1,6 @@
-use Rattle.std.proofs.Common.{◌≡◌, ◌≢◌, ◌∙◌, ap, sym, subst, arith, to_z, of_z, w64, SFits, rules}
-use Rattle.kpn_net.specs.Tables.{program_of}
-use Rattle.kpn_net.proofs.Networks.{IsInstance-of}
-use Rattle.kpn_step.specs.Stops.{IsAtPort}
+use Rattle.kpn_book.proofs.Common.{◌≡◌, ◌≢◌, ◌∙◌, ap, sym, subst, arith, to_z, of_z, w64, SFits, rules, program_of, IsInstance-of, IsAtPort, put_back, IsReadFrom, IsWriteTo, book_of, held_by, MayCommit, Answered, to_z-of_z, Stop, Stands, stop_of, stop_of-fault}
 use Rattle.kpn_step.specs.declared.stop.Stop.TheVariants as stop
 use Rattle.kpn_book.specs.declared.answers.Done.TheVariants as done
-use Rattle.kpn_book.specs.Book.{put_back}
-use Rattle.kpn_book.specs.Commits.{IsReadFrom, IsWriteTo}
-use Rattle.kpn_book.specs.Open.{book_of, held_by, MayCommit, Answered}
-use Rattle.std.proofs.lemmas.Int.{to_z-of_z}
-use Rattle.kpn_step.specs.declared.stop.Stop.{Stop}
-use Rattle.kpn_machine.specs.Due.{Stands, stop_of}
-use Rattle.kpn_machine.proofs.Due.{stop_of-fault}
 use Rattle.kpn_book.proofs.Committing.{reads_from, writes_to}
 use Rattle.kpn_book.proofs.Following.{held_is_there, moved}
 use Rattle.kpn_book.proofs.Answering.{asked_otherwise, answered_paused}

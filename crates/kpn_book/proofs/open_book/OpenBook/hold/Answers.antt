@@ -1,7 +1,6 @@
-use Rattle.kpn_book.specs.Open.{book_of}
+use Rattle.kpn_book.proofs.Common.{book_of, arith}
 use Rattle.kpn_book.proofs.Committing.{kept_claimed}
 use Rattle.kpn_book.proofs.FirstOfQueue.{first_by, claimed_by}
-use Rattle.std.proofs.Common.{arith}
 use Rattle.kpn_book.proofs.open_book.OpenBook.hold.Goals as goal
 
 pub set_first-requires-clause-first : goal.set_first-requires-clause-first

@@ -1,9 +1,4 @@
-use Rattle.std.proofs.Common.{◌+◌, ◌<◌, ◌^◌, ◌++◌, length, sym, ap, ◌∙◌, subst, arith}
-use Rattle.std.proofs.lemmas.List.Sums.{count_by-le-length}
-use Rattle.kpn_history.specs.Talks.{is_of_process, process_events}
-use Rattle.kpn_machine.specs.Machine.{IsMachine}
-use Rattle.kpn_book.specs.Kept.{IsKept}
-use Rattle.kpn_book.specs.Open.{book_of}
+use Rattle.kpn_book.proofs.Common.{◌+◌, ◌<◌, ◌^◌, ◌++◌, length, sym, ap, ◌∙◌, subst, arith, count_by-le-length, is_of_process, process_events, IsMachine, IsKept, book_of}
 use Rattle.kpn_book.proofs.Joined.{joined_book}
 use Rattle.kpn_book.proofs.open_book.OpenBook.join.Goals as goal
 

@@ -1,9 +1,6 @@
-use Rattle.std.proofs.Common.{refl, ap}
-use Rattle.std.specs.Option.{option_to_list}
+use Rattle.kpn_book.proofs.Common.{refl, ap, option_to_list, Legal-due, book_of}
 use Rattle.kpn_net.proofs.Networks.{sink_there}
 use Rattle.kpn_history.specs.declared.event.Event.TheVariants as event
-use Rattle.kpn_machine.proofs.Due.{Legal-due}
-use Rattle.kpn_book.specs.Open.{book_of}
 use Rattle.kpn_book.proofs.Following.{own_none, may_be_woken, followed, channel_fits}
 use Rattle.kpn_book.proofs.open_book.OpenBook.leave.Goals as goal
 

@@ -1,6 +1,4 @@
-use Rattle.std.proofs.Common.{rules}
-use Rattle.std.proofs.lemmas.Bool.{both_ways}
-use Rattle.kpn_book.specs.Open.{book_of}
+use Rattle.kpn_book.proofs.Common.{rules, both_ways, book_of}
 use Rattle.kpn_book.proofs.FirstOfQueue.{next_from}
 use Rattle.kpn_book.proofs.open_book.OpenBook.next.Goals as goal
 

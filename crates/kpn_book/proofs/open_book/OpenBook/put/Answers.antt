@@ -1,11 +1,5 @@
-use Rattle.std.proofs.Common.{sym, ap, subst, ◌∙◌, arith, w64, SFits, to_z, of_z, rules}
-use Rattle.std.proofs.lemmas.Int.{to_z-of_z}
-use Rattle.std.specs.Option.{option_to_list}
-use Rattle.kpn_book.specs.Schedule.{made_ready}
-use Rattle.kpn_book.specs.Appending.{all_made_ready}
+use Rattle.kpn_book.proofs.Common.{sym, ap, subst, ◌∙◌, arith, w64, SFits, to_z, of_z, rules, to_z-of_z, option_to_list, made_ready, all_made_ready, IsWriteTo, book_of, held_by, holding, IsHeldBy, Answered, MayBeReady}
 use Rattle.kpn_book.specs.declared.answers.Done.TheVariants as done
-use Rattle.kpn_book.specs.Commits.{IsWriteTo}
-use Rattle.kpn_book.specs.Open.{book_of, held_by, holding, IsHeldBy, Answered, MayBeReady}
 use Rattle.kpn_book.proofs.Following.{moved}
 use Rattle.kpn_book.proofs.open_book.OpenBook.put.Goals as goal
 

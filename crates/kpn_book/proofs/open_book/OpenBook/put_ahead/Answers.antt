@@ -1,13 +1,6 @@
-use Rattle.std.proofs.Common.{sym, ap, ◌∙◌, subst, arith, w64, SFits, rules}
-use Rattle.std.proofs.lemmas.Int.{to_z-of_z}
-use Rattle.std.specs.Option.{option_to_list}
-use Rattle.kpn_machine.proofs.Ports.{writes_below}
-use Rattle.kpn_book.specs.Schedule.{first_held, made_ready}
-use Rattle.kpn_book.specs.Appending.{all_made_ready}
+use Rattle.kpn_book.proofs.Common.{sym, ap, ◌∙◌, subst, arith, w64, SFits, rules, to_z-of_z, option_to_list, writes_below, first_held, made_ready, all_made_ready, IsWriteTo, book_of, held_by, first_claimed, with_ready, Answered, MayBeReady}
 use Rattle.kpn_book.specs.declared.answers.Done.TheVariants as done
 use Rattle.kpn_book.specs.declared.open_book.Hold.TheVariants as hold
-use Rattle.kpn_book.specs.Commits.{IsWriteTo}
-use Rattle.kpn_book.specs.Open.{book_of, held_by, first_claimed, with_ready, Answered, MayBeReady}
 use Rattle.kpn_book.proofs.Following.{held_is_there}
 use Rattle.kpn_book.proofs.FirstOfQueue.{held_so}
 use Rattle.kpn_book.proofs.GoingOn.{stays, may_stay}

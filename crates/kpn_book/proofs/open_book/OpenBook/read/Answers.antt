@@ -1,13 +1,6 @@
-use Rattle.std.proofs.Common.{◌≡◌, false, sym, ap, ◌∙◌, subst, arith, w64, SFits, rules}
-use Rattle.std.proofs.lemmas.Int.{to_z-of_z}
-use Rattle.std.specs.Option.{option_to_list}
-use Rattle.kpn_machine.proofs.Ports.{reads_below}
+use Rattle.kpn_book.proofs.Common.{◌≡◌, false, sym, ap, ◌∙◌, subst, arith, w64, SFits, rules, to_z-of_z, option_to_list, reads_below, made_ready, IsReadFrom, all_made_ready, book_of, held_by, holding, IsHeldBy, Answered, MayBeReady}
 use Rattle.kpn_machine.proofs.Exact.{gets_or_waits}
-use Rattle.kpn_book.specs.Schedule.{made_ready}
 use Rattle.kpn_book.specs.declared.answers.Done.TheVariants as done
-use Rattle.kpn_book.specs.Commits.{IsReadFrom}
-use Rattle.kpn_book.specs.Appending.{all_made_ready}
-use Rattle.kpn_book.specs.Open.{book_of, held_by, holding, IsHeldBy, Answered, MayBeReady}
 use Rattle.kpn_book.proofs.Following.{held_is_there, held_is_free, moved}
 use Rattle.kpn_book.proofs.FirstOfQueue.{held_so}
 use Rattle.kpn_book.proofs.open_book.OpenBook.read.Goals as goal

@@ -1,11 +1,5 @@
-use Rattle.std.proofs.Common.{◌<◌, length, subst, arith}
-use Rattle.std.proofs.lemmas.List.Elements.{Contains-get_or}
+use Rattle.kpn_book.proofs.Common.{◌<◌, length, subst, arith, Contains-get_or, instance_at, program_of, IsInstance-of, out_is_there, IsAtPort, book_of}
 use Rattle.std.specs.List.{Contains}
-use Rattle.kpn_net.specs.Tables.{instance_at, program_of}
-use Rattle.kpn_net.proofs.Networks.{IsInstance-of}
-use Rattle.kpn_net.proofs.PortsApart.{out_is_there}
-use Rattle.kpn_step.specs.Stops.{IsAtPort}
-use Rattle.kpn_book.specs.Open.{book_of}
 use Rattle.kpn_book.proofs.Committing.{reserves_item}
 use Rattle.kpn_book.proofs.open_book.OpenBook.reserve.Goals as goal
 

@@ -1,5 +1,4 @@
-use Rattle.std.proofs.Common.{◌≡◌, ◌+◌, true, false, refl, sym, ◌∙◌, subst, arith, rules}
-use Rattle.kpn_book.specs.Open.{book_of}
+use Rattle.kpn_book.proofs.Common.{◌≡◌, ◌+◌, true, false, refl, sym, ◌∙◌, subst, arith, rules, book_of}
 use Rattle.kpn_book.proofs.Following.{recorded, same_recorded}
 use Rattle.kpn_book.proofs.FirstOfQueue.{IsSoFar, none_so_far, more_so_far, runs_to_sink, runs_so_far, runs_till_idle, refused_with, refused_before, refused_in_turn}
 use Rattle.kpn_book.proofs.open_book.OpenBook.run_on.Goals as goal

@@ -1,5 +1,4 @@
-use Rattle.std.proofs.Common.{◌+◌, ◌-◌, ◌*◌, ◌≤◌}
-use Rattle.kpn_book.specs.Open.{book_of}
+use Rattle.kpn_book.proofs.Common.{◌+◌, ◌-◌, ◌*◌, ◌≤◌, book_of}
 use Rattle.kpn_book.proofs.FirstOfQueue.{IsSoFar}
 use Rattle.kpn_book.proofs.open_book.OpenBook.run_on.Given as goal
 

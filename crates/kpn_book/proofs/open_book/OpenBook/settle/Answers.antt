@@ -1,6 +1,4 @@
-use Rattle.std.proofs.Common.{◌≡◌, length, true, false, Some, None, refl, sym, ap, ◌∙◌, subst, arith, rules}
-use Rattle.kpn_book.specs.Kept.{IsKept}
-use Rattle.kpn_book.specs.Open.{book_of}
+use Rattle.kpn_book.proofs.Common.{◌≡◌, length, true, false, Some, None, refl, sym, ap, ◌∙◌, subst, arith, rules, IsKept, book_of}
 use Rattle.kpn_book.proofs.Following.{moved}
 use Rattle.kpn_book.proofs.Committing.{kept_put_back}
 use Rattle.kpn_book.proofs.Settling.{stuck_here, settles_not, settles_by, part_held}

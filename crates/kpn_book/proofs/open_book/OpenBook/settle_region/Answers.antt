@@ -1,6 +1,4 @@
-use Rattle.std.proofs.Common.{◌≡◌, length, sym, ap, ◌∙◌, subst, arith}
-use Rattle.kpn_book.specs.Open.{book_of}
-use Rattle.kpn_book.specs.Regions.{SettleBelow}
+use Rattle.kpn_book.proofs.Common.{◌≡◌, length, sym, ap, ◌∙◌, subst, arith, book_of, SettleBelow}
 use Rattle.kpn_book.proofs.Settling.{settled_at_first, settled_next}
 use Rattle.kpn_book.proofs.open_book.OpenBook.settle_region.Goals as goal
 

@@ -1,10 +1,6 @@
-use Rattle.std.proofs.Common.{refl, sym, ap, subst, ◌∙◌, w64, SFits, to_z, of_z, rules}
-use Rattle.std.proofs.lemmas.Int.{to_z-of_z}
-use Rattle.std.specs.Option.{option_to_list}
+use Rattle.kpn_book.proofs.Common.{refl, sym, ap, subst, ◌∙◌, w64, SFits, to_z, of_z, rules, to_z-of_z, option_to_list, Legal-due, book_of, Follows}
 use Rattle.kpn_net.proofs.Networks.{sink_there}
 use Rattle.kpn_history.specs.declared.event.Event.TheVariants as event
-use Rattle.kpn_machine.proofs.Due.{Legal-due}
-use Rattle.kpn_book.specs.Open.{book_of, Follows}
 use Rattle.kpn_book.proofs.Following.{own_none, may_be_woken, followed, recorded, channel_fits}
 use Rattle.kpn_book.proofs.open_book.OpenBook.take.Goals as goal
 

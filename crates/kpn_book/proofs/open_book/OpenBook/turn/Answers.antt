@@ -1,10 +1,4 @@
-use Rattle.std.proofs.Common.{◌+◌, ◌<◌, ◌^◌, refl, sym, subst, arith, rules}
-use Rattle.kpn_net.specs.Tables.{program_of}
-use Rattle.kpn_step.specs.Stops.{advanced_of}
-use Rattle.kpn_machine.specs.Machine.{frame_in}
-use Rattle.kpn_book.specs.Kept.{IsKept}
-use Rattle.kpn_book.specs.Open.{book_of}
-use Rattle.kpn_book.specs.InARow.{StepsUncommitted}
+use Rattle.kpn_book.proofs.Common.{◌+◌, ◌<◌, ◌^◌, refl, sym, subst, arith, rules, program_of, advanced_of, frame_in, IsKept, book_of, StepsUncommitted}
 use Rattle.kpn_book.proofs.FirstOfQueue.{holds_first, first_kept, kept_in_vain, turn_in_vain, refused_with, turn_fits, turn_made}
 use Rattle.kpn_book.proofs.open_book.OpenBook.turn.Goals as goal
 

@@ -1,9 +1,5 @@
-use Rattle.std.proofs.Common.{◌≡◌, None, refl, ap, subst, ◌∙◌, arith, inl, inr}
-use Rattle.std.proofs.lemmas.Bool.{cases_eq}
-use Rattle.kpn_book.specs.Book.{held_count}
-use Rattle.kpn_book.specs.Kept.{IsBook}
+use Rattle.kpn_book.proofs.Common.{◌≡◌, None, refl, ap, subst, ◌∙◌, arith, inl, inr, cases_eq, held_count, IsBook, book_of, GoesFurther}
 use Rattle.kpn_book.specs.GoingOn.{no_turn, another_order, steps_on, IsReordered}
-use Rattle.kpn_book.specs.Open.{book_of, GoesFurther}
 use Rattle.kpn_book.proofs.FirstOfQueue.{holds_first, refused_with}
 use Rattle.kpn_book.proofs.Following.{moved}
 use Rattle.kpn_book.proofs.GoingOn.{goes_back, and_then}

@@ -1,8 +1,4 @@
-use Rattle.std.proofs.Common.{◌≡◌, ◌+◌, ◌*◌, ◌≤◌, slice_get, Some, None}
-use Rattle.kpn_book.specs.Book.{held_count}
-use Rattle.kpn_book.specs.Kept.{IsKept}
-use Rattle.kpn_book.specs.GoingOn.{TurnsInAnyOrder}
-use Rattle.kpn_book.specs.Open.{book_of}
+use Rattle.kpn_book.proofs.Common.{◌≡◌, ◌+◌, ◌*◌, ◌≤◌, slice_get, Some, None, held_count, IsKept, TurnsInAnyOrder, book_of}
 use Rattle.kpn_book.proofs.open_book.OpenBook.turn_ahead.Given as goal
 
 abbrev pub invariant-events : goal.invariant-events

@@ -1,9 +1,5 @@
-use Rattle.std.proofs.Common.{[], refl, ap, ◌∙◌, inl, arith}
+use Rattle.kpn_book.proofs.Common.{[], refl, ap, ◌∙◌, inl, arith, reads_below, Legal-due, IsReadFrom, book_of, held_by, Follows}
 use Rattle.kpn_history.specs.declared.event.Event.TheVariants as event
-use Rattle.kpn_machine.proofs.Ports.{reads_below}
-use Rattle.kpn_machine.proofs.Due.{Legal-due}
-use Rattle.kpn_book.specs.Commits.{IsReadFrom}
-use Rattle.kpn_book.specs.Open.{book_of, held_by, Follows}
 use Rattle.kpn_book.proofs.Following.{own_held, held_is_there, held_is_free, followed, recorded, process_fits, channel_fits}
 use Rattle.kpn_book.proofs.Answering.{answered_wait}
 use Rattle.kpn_book.proofs.FirstOfQueue.{held_so}

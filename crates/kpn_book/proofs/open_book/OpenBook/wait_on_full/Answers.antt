@@ -1,9 +1,5 @@
-use Rattle.std.proofs.Common.{[], refl, ap, ◌∙◌, inr, arith}
+use Rattle.kpn_book.proofs.Common.{[], refl, ap, ◌∙◌, inr, arith, writes_below, Legal-due, IsWriteTo, book_of, held_by, Follows}
 use Rattle.kpn_history.specs.declared.event.Event.TheVariants as event
-use Rattle.kpn_machine.proofs.Ports.{writes_below}
-use Rattle.kpn_machine.proofs.Due.{Legal-due}
-use Rattle.kpn_book.specs.Commits.{IsWriteTo}
-use Rattle.kpn_book.specs.Open.{book_of, held_by, Follows}
 use Rattle.kpn_book.proofs.Following.{own_held, held_is_there, held_is_free, followed, recorded, process_fits, channel_fits}
 use Rattle.kpn_book.proofs.Answering.{answered_wait}
 use Rattle.kpn_book.proofs.FirstOfQueue.{held_so}

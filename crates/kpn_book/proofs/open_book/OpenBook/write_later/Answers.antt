@@ -1,9 +1,5 @@
-use Rattle.std.proofs.Common.{sym, subst, w64, SFits, rules}
-use Rattle.std.proofs.lemmas.Int.{to_z-of_z}
-use Rattle.kpn_machine.proofs.Ports.{writes_below}
+use Rattle.kpn_book.proofs.Common.{sym, subst, w64, SFits, rules, to_z-of_z, writes_below, IsWriteTo, book_of, first_claimed, Answered}
 use Rattle.kpn_book.specs.declared.answers.Done.TheVariants as done
-use Rattle.kpn_book.specs.Commits.{IsWriteTo}
-use Rattle.kpn_book.specs.Open.{book_of, first_claimed, Answered}
 use Rattle.kpn_book.proofs.Following.{held_is_there}
 use Rattle.kpn_book.proofs.FirstOfQueue.{held_first, puts_on_it, puts_on_none}
 use Rattle.kpn_book.proofs.open_book.OpenBook.write_later.Goals as goal

@@ -1,7 +1,4 @@
-use Rattle.std.proofs.Common.{◌<◌, length, sym, ap, ◌∙◌, subst}
-use Rattle.kpn_net.proofs.Networks.{Reads-reader_of, Writes-writer_of}
-use Rattle.kpn_net.specs.Tables.{writer_of}
-use Rattle.kpn_book.specs.RegionClaims.{is_end_within}
+use Rattle.kpn_book.proofs.Common.{◌<◌, length, sym, ap, ◌∙◌, subst, Reads-reader_of, Writes-writer_of, writer_of, is_end_within}
 use Rattle.kpn_book.proofs.Claiming.{on_ok}
 use Rattle.kpn_book.proofs.open_book.claims.claim_channel.Goals as goal
 

@@ -1,7 +1,4 @@
-use Rattle.std.proofs.Common.{◌≡◌, ◌<◌, length, sym, ap, ◌∙◌, subst, arith}
-use Rattle.kpn_machine.specs.Machine.{channel_in}
-use Rattle.kpn_book.specs.RegionClaims.{IsRoomyToWrite}
-use Rattle.kpn_book.specs.ClaimParts.{SeesChannels}
+use Rattle.kpn_book.proofs.Common.{◌≡◌, ◌<◌, length, sym, ap, ◌∙◌, subst, arith, channel_in, IsRoomyToWrite, SeesChannels}
 use Rattle.kpn_book.proofs.Claiming.{no_room_made, more_room_made, no_channel_yet, one_channel_more, one_roomy_more}
 use Rattle.kpn_book.proofs.open_book.claims.claim_channels.Goals as goal
 

@@ -1,6 +1,4 @@
-use Rattle.std.proofs.Common.{ℕ, ◌<◌}
-use Rattle.kpn_book.specs.RegionClaims.{IsRoomyToWrite}
-use Rattle.kpn_book.specs.ClaimParts.{MakesRoom, SeesChannels}
+use Rattle.kpn_book.proofs.Common.{ℕ, ◌<◌, IsRoomyToWrite, MakesRoom, SeesChannels}
 use Rattle.kpn_book.proofs.open_book.claims.claim_channels.Given as goal
 
 abbrev pub invariant-channels : goal.invariant-channels

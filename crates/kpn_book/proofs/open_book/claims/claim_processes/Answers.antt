@@ -1,7 +1,4 @@
-use Rattle.std.proofs.Common.{◌<◌, length, take, get_or, sym, subst}
-use Rattle.std.proofs.lemmas.List.{take_more}
-use Rattle.std.proofs.lemmas.List.Elements.{Contains-get_or}
-use Rattle.kpn_book.specs.ClaimParts.{HasProcesses}
+use Rattle.kpn_book.proofs.Common.{◌<◌, length, take, get_or, sym, subst, take_more, Contains-get_or, HasProcesses}
 use Rattle.kpn_book.proofs.Claiming.{one_process_more}
 use Rattle.kpn_book.proofs.open_book.claims.claim_processes.Goals as goal
 

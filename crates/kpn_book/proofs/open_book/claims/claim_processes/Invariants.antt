@@ -1,5 +1,4 @@
-use Rattle.std.proofs.Common.{take}
-use Rattle.kpn_book.specs.ClaimParts.{HasProcesses}
+use Rattle.kpn_book.proofs.Common.{take, HasProcesses}
 use Rattle.kpn_book.proofs.open_book.claims.claim_processes.Given as goal
 
 abbrev pub invariant-processes : goal.invariant-processes

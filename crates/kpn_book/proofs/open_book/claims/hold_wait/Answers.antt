@@ -1,5 +1,4 @@
-use Rattle.std.proofs.Common.{sym, ◌∙◌, subst}
-use Rattle.kpn_net.specs.Waits.{IsOwnWait}
+use Rattle.kpn_book.proofs.Common.{sym, ◌∙◌, subst, IsOwnWait}
 use Rattle.kpn_net.proofs.Findings.{read_below, written_below}
 use Rattle.kpn_book.proofs.open_book.claims.hold_wait.Goals as goal
 

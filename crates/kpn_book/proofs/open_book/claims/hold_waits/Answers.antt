@@ -1,5 +1,4 @@
-use Rattle.std.proofs.Common.{◌<◌, length, get_or, sym, ap, subst}
-use Rattle.std.proofs.lemmas.List.Elements.{Contains-get_or}
+use Rattle.kpn_book.proofs.Common.{◌<◌, length, get_or, sym, ap, subst, Contains-get_or}
 use Rattle.kpn_book.proofs.open_book.claims.hold_waits.Goals as goal
 
 pub hold_wait-requires-clause-process : goal.hold_wait-requires-clause-process

@@ -1,7 +1,4 @@
-use Rattle.std.proofs.Common.{◌≡◌, true, not, take}
-use Rattle.std.specs.List.{list_all, list_any}
-use Rattle.kpn_history.specs.Views.{is_ready, is_held}
-use Rattle.kpn_book.specs.Schedule.{state_at}
+use Rattle.kpn_book.proofs.Common.{◌≡◌, true, not, take, list_all, list_any, is_ready, is_held, state_at}
 use Rattle.kpn_book.proofs.open_book.claims.may_claim.Given as goal
 
 abbrev pub invariant-processes : goal.invariant-processes

@@ -1,11 +1,7 @@
-use Rattle.std.proofs.Common.{◌<◌, length, take, get_or, arith, sym, ap, ◌∙◌}
+use Rattle.kpn_book.proofs.Common.{◌<◌, length, take, get_or, arith, sym, ap, ◌∙◌, Contains-get_or, is_ready, state_at, made_ready, all_made_ready}
 use Rattle.std.proofs.Math.Numerals.{suc-eq-add-one}
 use Rattle.std.proofs.Math.Seq.{take-suc}
-use Rattle.std.proofs.lemmas.List.Elements.{Contains-get_or}
 use Rattle.kpn_machine.proofs.Ending.{not_before}
-use Rattle.kpn_history.specs.Views.{is_ready}
-use Rattle.kpn_book.specs.Schedule.{state_at, made_ready}
-use Rattle.kpn_book.specs.Appending.{all_made_ready}
 use Rattle.kpn_book.proofs.AllReady.{states_length, are_as_before, all_made_ready-push}
 use Rattle.kpn_book.proofs.open_book.commits.wake_all.Goals as goal
 

@@ -1,5 +1,4 @@
-use Rattle.std.proofs.Common.{◌≡◌, take}
-use Rattle.kpn_book.specs.Appending.{all_made_ready}
+use Rattle.kpn_book.proofs.Common.{◌≡◌, take, all_made_ready}
 use Rattle.kpn_book.proofs.open_book.commits.wake_all.Given as goal
 
 abbrev pub invariant-processes : goal.invariant-processes

@@ -1,5 +1,4 @@
-use Rattle.std.proofs.Common.{◌+◌, ◌<◌, length, sym, ◌∙◌, subst, arith}
-use Rattle.kpn_region.specs.Local.{is_in_region}
+use Rattle.kpn_book.proofs.Common.{◌+◌, ◌<◌, length, sym, ◌∙◌, subst, arith, is_in_region}
 use Rattle.kpn_book.proofs.Queueing.{first_is_there}
 use Rattle.kpn_book.proofs.Regions.{HadTurns, no_turn_yet, had_turn, somebody_waits, turns_length, all_had_turns}
 use Rattle.kpn_book.proofs.open_book.regions.hold_region.Goals as goal

@@ -1,7 +1,4 @@
-use Rattle.std.proofs.Common.{◌≡◌, length, ap, sym, ◌∙◌, arith}
-use Rattle.std.specs.List.{range_with_len}
-use Rattle.kpn_region.specs.Local.{is_in_region}
-use Rattle.kpn_book.specs.Regions.{put_back_if, all_put_back}
+use Rattle.kpn_book.proofs.Common.{◌≡◌, length, ap, sym, ◌∙◌, arith, range_with_len, is_in_region, put_back_if, all_put_back}
 use Rattle.kpn_book.proofs.Queueing.{range_next}
 use Rattle.kpn_book.proofs.Regions.{length_put_back, all_put_back-push}
 use Rattle.kpn_book.proofs.open_book.regions.put_back_region.Goals as goal

@@ -1,7 +1,4 @@
-use Rattle.std.proofs.Common.{◌≡◌}
-use Rattle.std.specs.List.{range_with_len}
-use Rattle.kpn_region.specs.Local.{is_in_region}
-use Rattle.kpn_book.specs.Regions.{all_put_back}
+use Rattle.kpn_book.proofs.Common.{◌≡◌, range_with_len, is_in_region, all_put_back}
 use Rattle.kpn_book.proofs.open_book.regions.put_back_region.Given as goal
 
 abbrev pub invariant-processes : goal.invariant-processes

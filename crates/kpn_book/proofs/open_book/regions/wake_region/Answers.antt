@@ -1,8 +1,4 @@
-use Rattle.std.proofs.Common.{◌≡◌, length, ap, sym, ◌∙◌, arith}
-use Rattle.std.specs.List.{range_with_len}
-use Rattle.kpn_net.specs.Waits.{wait_at}
-use Rattle.kpn_region.specs.Local.{is_in_region}
-use Rattle.kpn_book.specs.Regions.{woken_if, all_woken}
+use Rattle.kpn_book.proofs.Common.{◌≡◌, length, ap, sym, ◌∙◌, arith, range_with_len, wait_at, is_in_region, woken_if, all_woken}
 use Rattle.kpn_book.proofs.Queueing.{range_next}
 use Rattle.kpn_book.proofs.Regions.{length_woken, all_woken-push}
 use Rattle.kpn_book.proofs.open_book.regions.wake_region.Goals as goal

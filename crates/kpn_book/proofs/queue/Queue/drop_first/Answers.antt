@@ -1,5 +1,4 @@
-use Rattle.std.proofs.Common.{drop, sym, ap, arith}
-use Rattle.std.proofs.lemmas.List.{drop_more}
+use Rattle.kpn_book.proofs.Common.{drop, sym, ap, arith, drop_more}
 use Rattle.kpn_book.proofs.queue.Queue.drop_first.Goals as goal
 
 pub returns-clause-numbers : goal.returns-clause-numbers

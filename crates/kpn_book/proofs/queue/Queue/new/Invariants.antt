@@ -1,5 +1,4 @@
-use Rattle.std.proofs.Common.{◌≡◌, ◌≤◌}
-use Rattle.std.specs.List.{range_with_len}
+use Rattle.kpn_book.proofs.Common.{◌≡◌, ◌≤◌, range_with_len}
 use Rattle.kpn_book.proofs.queue.Queue.new.Given as goal
 
 abbrev pub invariant-loop-p : goal.invariant-loop-p

@@ -1,8 +1,4 @@
-use Rattle.std.proofs.Common.{◌<◌, ◌≤◌, length, get_or, sym, ap, ◌∙◌, arith}
-use Rattle.kpn_net.proofs.Networks.{sizes, Writes-writer_of}
-use Rattle.kpn_history.specs.declared.state.State.TheVariants.{Ready}
-use Rattle.kpn_history.proofs.CompleteWalks.{walk_starts}
-use Rattle.kpn_book.specs.Reports.{events_of}
+use Rattle.kpn_book.proofs.Common.{◌<◌, ◌≤◌, length, get_or, sym, ap, ◌∙◌, arith, sizes, Writes-writer_of, Ready, walk_starts, events_of}
 use Rattle.kpn_book.proofs.Completing.{tells_outside, tells_round, tells_ended, tells_neither, walk_on, next_there}
 use Rattle.kpn_book.proofs.report.Report.is_complete.Goals as goal
 

@@ -1,6 +1,4 @@
-use Rattle.std.proofs.Common.{◌<◌, length}
-use Rattle.kpn_history.proofs.CompleteWalks.{Walked}
-use Rattle.kpn_book.specs.Reports.{events_of}
+use Rattle.kpn_book.proofs.Common.{◌<◌, length, Walked, events_of}
 use Rattle.kpn_book.proofs.report.Report.is_complete.Given as goal
 
 abbrev pub invariant-loop-step : goal.invariant-loop-step

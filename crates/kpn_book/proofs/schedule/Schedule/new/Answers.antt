@@ -1,5 +1,4 @@
-use Rattle.std.proofs.lemmas.List.{length-replicate}
-use Rattle.kpn_history.specs.declared.state.State.TheVariants.{Ready}
+use Rattle.kpn_book.proofs.Common.{length-replicate, Ready}
 use Rattle.kpn_book.proofs.Tallies.{IsTally-ready}
 use Rattle.kpn_book.proofs.Queueing.{IsSchedule-ready}
 use Rattle.kpn_book.proofs.schedule.Schedule.new.Goals as goal

@@ -1,8 +1,4 @@
-use Rattle.std.proofs.Common.{◌≡◌, ◌<◌, length, get_or, sym, ap, subst, false}
-use Rattle.std.proofs.lemmas.List.{length-set}
-use Rattle.kpn_history.specs.declared.state.State.TheVariants.{Ready}
-use Rattle.kpn_history.specs.Views.{is_ready}
-use Rattle.kpn_book.specs.Queue.{waiting}
+use Rattle.kpn_book.proofs.Common.{◌≡◌, ◌<◌, length, get_or, sym, ap, subst, false, length-set, Ready, is_ready, waiting}
 use Rattle.kpn_book.proofs.Queueing.{has_room, IsSchedule-made_ready}
 use Rattle.kpn_book.proofs.schedule.Schedule.put_back.Goals as goal
 

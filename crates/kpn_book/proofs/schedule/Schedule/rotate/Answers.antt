@@ -1,7 +1,4 @@
-use Rattle.std.proofs.Common.{◌≡◌, length, Some, slice_get, sym, ◌∙◌, subst}
-use Rattle.std.proofs.lemmas.Option.{slice_get_within}
-use Rattle.kpn_book.specs.Schedule.{Schedule, first_held, made_ready}
-use Rattle.kpn_book.specs.Queue.{waiting}
+use Rattle.kpn_book.proofs.Common.{◌≡◌, length, Some, slice_get, sym, ◌∙◌, subst, slice_get_within, Schedule, first_held, made_ready, waiting}
 use Rattle.kpn_book.proofs.Waiting.{first_waits}
 use Rattle.kpn_book.proofs.Queueing.{scheduled, rotated, IsSchedule-rotated, few_wait}
 use Rattle.kpn_book.proofs.schedule.Schedule.rotate.Goals as goal

@@ -1,8 +1,4 @@
-use Rattle.std.proofs.Common.{◌≡◌, Some, slice_get, sym, ◌∙◌, subst}
-use Rattle.std.proofs.lemmas.List.{length-set}
-use Rattle.std.proofs.lemmas.Option.{slice_get_within}
-use Rattle.kpn_book.specs.Schedule.{Schedule, first_held, with_state}
-use Rattle.kpn_book.specs.Queue.{waiting}
+use Rattle.kpn_book.proofs.Common.{◌≡◌, Some, slice_get, sym, ◌∙◌, subst, length-set, slice_get_within, Schedule, first_held, with_state, waiting}
 use Rattle.kpn_book.proofs.Waiting.{first_waits}
 use Rattle.kpn_book.proofs.Queueing.{scheduled, first_is_there, first_is_ready, IsSchedule-left, left_first}
 use Rattle.kpn_book.proofs.schedule.Schedule.set_first.Goals as goal

@@ -1,6 +1,5 @@
 use Rattle.std.specs.Prelude.{◌+◌, ◌<◌, ◌^◌}
-use Rattle.std.proofs.Common.{ap, sym, ◌∙◌, subst, rules}
-use Rattle.kpn_chan.specs.Ring.{IsLaidOut}
+use Rattle.kpn_chan.proofs.Common.{ap, sym, ◌∙◌, subst, rules, IsLaidOut}
 use Rattle.kpn_chan.proofs.Places.{passed}
 use Rattle.kpn_chan.proofs.channel.Channel.get.Goals as goal
 

@@ -1,7 +1,5 @@
 use Rattle.std.proofs.Common.{◌≡◌, ◌&&◌, true, false, IsTrue, rules, sym, ap, ◌∙◌, subst}
-use Rattle.kpn_chan.specs.Channel.{MayJoin, batch_joined}
-use Rattle.kpn_chan.specs.Ring.{has_place}
-use Rattle.kpn_chan.specs.Chunks.{all_of, has_room}
+use Rattle.kpn_chan.proofs.Common.{MayJoin, batch_joined, has_place, all_of, has_room}
 use Rattle.kpn_chan.proofs.Places.{may_pass, may_append, joined_laid_out, read_then, seen_joined}
 use Rattle.kpn_chan.proofs.channel.Channel.join.Goals.{then-self, else-self}
 use Rattle.kpn_chan.proofs.channel.Channel.join.Goals as goal

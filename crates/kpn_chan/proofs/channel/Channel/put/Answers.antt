@@ -1,10 +1,6 @@
 use Rattle.std.proofs.Common.{◌≡◌, ◌∷◌, ◌++◌, ◌&&◌, [], ℤ, max, true, false, IsTrue, ltb-true, to_z, of_z, w64, rules, sym, ap, ◌∙◌, subst}
-use Rattle.std.specs.Option.{is_none}
+use Rattle.kpn_chan.proofs.Common.{is_none, and_parts, after_put, all_of, has_room, HasNext, IsLaidOut, has_place}
 use Rattle.std.proofs.lemmas.Int.{to_z-of_z}
-use Rattle.std.proofs.lemmas.Bool.{and_parts}
-use Rattle.kpn_chan.specs.Channel.{after_put}
-use Rattle.kpn_chan.specs.Chunks.{all_of, has_room, HasNext}
-use Rattle.kpn_chan.specs.Ring.{IsLaidOut, has_place}
 use Rattle.kpn_chan.proofs.Places.{on_ok, seen_so, put_in_ring, put_on_retired, seen_put, seen_put_on_retired}
 use Rattle.kpn_chan.proofs.channel.Channel.put.Goals.{in-Some, in_default}
 use Rattle.kpn_chan.proofs.channel.Channel.put.Goals as goal

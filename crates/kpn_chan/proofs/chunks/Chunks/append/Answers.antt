@@ -1,9 +1,6 @@
 use Rattle.std.proofs.Common.{◌≡◌, ◌<◌, ◌+◌, ◌-◌, List, ℤ, length, true, rules, arith, sym, ap, ◌∙◌, subst}
-use Rattle.std.proofs.lemmas.List.{length-append}
+use Rattle.kpn_chan.proofs.Common.{length-append, AreFull, false≢true, CHUNK}
 use Rattle.std.proofs.lemmas.List.Elements.{All-push}
-use Rattle.kpn_chan.specs.Chunks.{AreFull}
-use Rattle.std.proofs.lemmas.Bool.{false≢true}
-use Rattle.kpn_chan.specs.declared.chunks.TheConstants.{CHUNK}
 use Rattle.kpn_chan.proofs.Places.{one_more_chunk}
 use Rattle.kpn_chan.proofs.chunks.Chunks.append.Goals as goal
 

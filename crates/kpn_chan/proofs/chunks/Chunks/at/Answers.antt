@@ -1,6 +1,5 @@
 use Rattle.std.specs.Prelude.{◌≡◌, ◌<◌, ◌≤◌, ◌*◌, ◌/◌, ◌%◌, ◌-◌, length, slice_get}
-use Rattle.std.proofs.Common.{arith, ap, ◌∙◌}
-use Rattle.kpn_chan.specs.declared.chunks.TheConstants.{CHUNK}
+use Rattle.kpn_chan.proofs.Common.{arith, ap, ◌∙◌, CHUNK}
 use Rattle.kpn_chan.proofs.Places.{at_chunk, at_last}
 use Rattle.kpn_chan.proofs.chunks.Chunks.at.Goals as goal
 

@@ -1,7 +1,5 @@
 use Rattle.std.proofs.Common.{◌≡◌, ◌<◌, ◌≤◌, true, false, slice_get, length, refl, sym, subst, ◌∙◌, inl, inr, arith, rules}
-use Rattle.std.proofs.lemmas.Bool.{both_ways, false≢true, cases_lt}
-use Rattle.std.proofs.lemmas.Option.{slice_get-get_or}
-use Rattle.kpn_chan.specs.Chunks.{items_of}
+use Rattle.kpn_chan.proofs.Common.{both_ways, false≢true, cases_lt, slice_get-get_or, items_of}
 use Rattle.kpn_chan.proofs.Places.{begins_by_places, at_place_of_beginning}
 use Rattle.kpn_chan.proofs.chunks.Chunks.begins_with.Goals as goal
 

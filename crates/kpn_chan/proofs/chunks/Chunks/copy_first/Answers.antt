@@ -1,7 +1,5 @@
 use Rattle.std.specs.Prelude.{◌≡◌, ◌+◌, ◌<◌, ◌≤◌, ℤ, List, length, take, drop, refl}
-use Rattle.std.proofs.Common.{arith, ap, sym, subst, ◌∙◌}
-use Rattle.std.proofs.lemmas.List.{length-append, length-take-le}
-use Rattle.kpn_chan.specs.Chunks.{items_of}
+use Rattle.kpn_chan.proofs.Common.{arith, ap, sym, subst, ◌∙◌, length-append, length-take-le, items_of}
 use Rattle.kpn_chan.proofs.Places.{copied_more}
 use Rattle.kpn_chan.proofs.chunks.Chunks.copy_first.Goals as goal
 

@@ -1,6 +1,5 @@
 use Rattle.std.proofs.Common.{◌≤◌, length, refl, sym, ◌∙◌, arith, rules}
-use Rattle.std.proofs.lemmas.List.{take_all}
-use Rattle.kpn_chan.specs.Chunks.{items_of}
+use Rattle.kpn_chan.proofs.Common.{take_all, items_of}
 use Rattle.kpn_chan.proofs.Places.{begins_by_places}
 use Rattle.kpn_chan.proofs.chunks.Chunks.has_items_of.Goals as goal
 

@@ -1,7 +1,5 @@
 use Rattle.std.specs.Prelude.{◌≡◌, ◌<◌, ◌≤◌, ◌*◌, ◌/◌, ◌%◌, ◌-◌, ℤ, List, length, take, drop}
-use Rattle.std.proofs.Common.{arith, ap, sym, subst, ◌∙◌, length-drop}
-use Rattle.kpn_chan.specs.declared.chunks.TheConstants.{CHUNK}
-use Rattle.kpn_chan.specs.Chunks.{items_of}
+use Rattle.kpn_chan.proofs.Common.{arith, ap, sym, subst, ◌∙◌, length-drop, CHUNK, items_of}
 use Rattle.kpn_chan.proofs.Places.{count_of, chunk_piece, last_piece}
 use Rattle.kpn_chan.proofs.chunks.Chunks.piece_at.Goals as goal
 

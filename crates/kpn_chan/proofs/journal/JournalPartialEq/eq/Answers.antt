@@ -1,9 +1,8 @@
 use Rattle.std.proofs.Common.{◌≡◌, subst}
-use Rattle.std.specs.Bool.{Decides}
+use Rattle.kpn_chan.proofs.Common.{Decides, items_of}
 use Rattle.std.specs.Cmp.Lexicographic.{pointwise}
 use Rattle.std.specs.Cmp.Rules.{signed_items}
 use Rattle.std.specs.Ordering.{int_eq}
-use Rattle.kpn_chan.specs.Chunks.{items_of}
 use Rattle.kpn_chan.proofs.Places.{tests_agree}
 use Rattle.kpn_chan.proofs.journal.JournalPartialEq.eq.Goals as goal
 

@@ -1,8 +1,5 @@
 -- The line about formats is written in two parts.
-use Rattle.std.proofs.Common.{◌≡◌, ℕ, List, [], ◌∷◌, ◌++◌, refl, sym, subst}
-use Rattle.kpn_command_base.specs.Told.{IsLineTold}
-use Rattle.kpn_command_stream.specs.declared.refusal.StreamRefusal.{StreamRefusal}
-use Rattle.kpn_command_stream.specs.Refusal.{refusal_text}
+use Rattle.kpn_command_stream.proofs.Common.{◌≡◌, ℕ, List, [], ◌∷◌, ◌++◌, refl, sym, subst, IsLineTold, StreamRefusal, refusal_text}
 use Rattle.kpn_command_stream.proofs.refusal.StreamRefusal.report.Goals as goal
 
 both : (first second start end : List ℕ) → first ≡ start → second ≡ end → first ++ second ≡ start ++ end

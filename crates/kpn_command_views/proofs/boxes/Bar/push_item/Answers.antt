@@ -1,8 +1,5 @@
 -- The front, the title and the name.
-use Rattle.std.proofs.Common.{◌≡◌, ℤ, ◌++◌, SFits, w64, subst, rules}
-use Rattle.std.proofs.lemmas.Int.{to_z-of_z}
-use Rattle.std.specs.String.{string_bytes}
-use Rattle.kpn_command_views.specs.PictureText.{item_title}
+use Rattle.kpn_command_views.proofs.Common.{◌≡◌, ℤ, ◌++◌, SFits, w64, subst, rules, to_z-of_z, string_bytes, item_title}
 use Rattle.kpn_command_views.proofs.Drawn.{shown_pieces}
 use Rattle.kpn_command_views.proofs.boxes.Bar.push_item.Goals as goal
 

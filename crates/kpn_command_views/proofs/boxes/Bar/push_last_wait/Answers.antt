@@ -1,6 +1,5 @@
 -- The front, the title and the name.
-use Rattle.std.specs.String.{string_bytes}
-use Rattle.kpn_command_views.specs.PictureText.{last_title}
+use Rattle.kpn_command_views.proofs.Common.{string_bytes, last_title}
 use Rattle.kpn_command_views.proofs.Drawn.{shown_pieces}
 use Rattle.kpn_command_views.proofs.boxes.Bar.push_last_wait.Goals as goal
 

@@ -1,9 +1,5 @@
 -- The box stands where the row has its bar.
-use Rattle.std.proofs.Common.{ℤ, SFits, w64, ap, ◌∙◌, subst, rules}
-use Rattle.std.proofs.lemmas.Int.{to_z-of_z}
-use Rattle.kpn_command_base.specs.Added.{Adds}
-use Rattle.kpn_command_views.specs.declared.boxes.Bar.{Bar}
-use Rattle.kpn_command_views.specs.PictureText.{bar_between, item_title, shown_box}
+use Rattle.kpn_command_views.proofs.Common.{ℤ, SFits, w64, ap, ◌∙◌, subst, rules, to_z-of_z, Adds, Bar, bar_between, item_title, shown_box}
 use Rattle.kpn_command_views.proofs.boxes.ProcessRow.push_item.Goals as goal
 
 pub returns : goal.returns

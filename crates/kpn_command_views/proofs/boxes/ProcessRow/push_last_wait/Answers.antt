@@ -1,8 +1,5 @@
 -- The box stands where the row has its bar.
-use Rattle.std.proofs.Common.{◌+◌, subst}
-use Rattle.kpn_command_base.specs.Added.{Adds}
-use Rattle.kpn_command_views.specs.declared.boxes.Bar.{Bar}
-use Rattle.kpn_command_views.specs.PictureText.{last_title, shown_box}
+use Rattle.kpn_command_views.proofs.Common.{◌+◌, subst, Adds, Bar, last_title, shown_box}
 use Rattle.kpn_command_views.proofs.boxes.ProcessRow.push_last_wait.Goals as goal
 
 pub returns : goal.returns

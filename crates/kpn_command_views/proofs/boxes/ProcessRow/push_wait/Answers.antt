@@ -1,8 +1,5 @@
 -- The box stands where the row has its bar.
-use Rattle.std.proofs.Common.{ℕ, ◌+◌, subst}
-use Rattle.kpn_command_base.specs.Added.{Adds}
-use Rattle.kpn_command_views.specs.declared.boxes.Bar.{Bar}
-use Rattle.kpn_command_views.specs.PictureText.{bar_between, shown_box, wait_title}
+use Rattle.kpn_command_views.proofs.Common.{ℕ, ◌+◌, subst, Adds, Bar, bar_between, shown_box, wait_title}
 use Rattle.kpn_command_views.proofs.boxes.ProcessRow.push_wait.Goals as goal
 
 pub returns : goal.returns

@@ -1,9 +1,5 @@
 -- What the parts of the code answer is all that the picture wants. The ticks of the events are few.
-use Rattle.std.proofs.Common.{true, sym, subst, ap, ◌∙◌, arith}
-use Rattle.kpn_ticks.specs.Ticks.{Clocks}
-use Rattle.kpn_ticks.specs.Shown.{shown, AreClocks}
-use Rattle.kpn_ticks.proofs.Counting.{clocks_are, ticks_are_few}
-use Rattle.kpn_command_views.specs.PictureText.{scale_for}
+use Rattle.kpn_command_views.proofs.Common.{true, sym, subst, ap, ◌∙◌, arith, Clocks, shown, AreClocks, clocks_are, ticks_are_few, scale_for}
 use Rattle.kpn_command_views.proofs.Pictured.{pictured}
 use Rattle.kpn_command_views.proofs.picture.DrawnRun.picture.Goals as goal
 

@@ -1,11 +1,7 @@
 -- Events of version 1 grow by its rules.
-use Rattle.std.proofs.Common.{IfOk, ap, ◌∙◌, subst}
+use Rattle.kpn_command_views.proofs.Common.{IfOk, ap, ◌∙◌, subst, Tables, under, Cycles, picture_size, IsPicture, IsNoPicture}
 use Rattle.std.specs.Result.{IfErr}
-use Rattle.kpn_net.specs.Tables.{Tables, under}
-use Rattle.kpn_net.specs.declared.tables.Policy.TheVariants.{Cycles}
 use Rattle.kpn_net.specs.declared.tables.Growth.TheVariants as growth
-use Rattle.kpn_command_views.specs.PictureText.{picture_size}
-use Rattle.kpn_command_views.specs.PictureAnswers.{IsPicture, IsNoPicture}
 use Rattle.kpn_command_views.proofs.picture.DrawnRun.picture_under.Goals as goal
 
 pub returns-in_ok-plain-in-One-clause-ok : goal.returns-in_ok-plain-in-One-clause-ok

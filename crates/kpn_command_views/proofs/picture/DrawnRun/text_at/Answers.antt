@@ -1,10 +1,5 @@
 -- All parts, one after another.
-use Rattle.std.proofs.Common.{List, ℕ, true, ◌++◌, ap, ◌∙◌}
-use Rattle.std.specs.String.{string_bytes}
-use Rattle.kpn_command_base.proofs.PieceLemmas.{two_pieces}
-use Rattle.kpn_ticks.specs.Ticks.{start}
-use Rattle.kpn_ticks.specs.Shown.{shown}
-use Rattle.kpn_command_views.specs.PictureText.{picture_head_text, grid_text, all_event_boxes, last_boxes, legend}
+use Rattle.kpn_command_views.proofs.Common.{List, ℕ, true, ◌++◌, ap, ◌∙◌, string_bytes, two_pieces, start, shown, picture_head_text, grid_text, all_event_boxes, last_boxes, legend}
 use Rattle.kpn_command_views.proofs.picture.DrawnRun.text_at.Goals as goal
 
 pub returns : goal.returns

@@ -1,5 +1,4 @@
-use Rattle.std.proofs.Common.{None, sym, ap, ◌∙◌}
-use Rattle.std.specs.List.{last_or}
+use Rattle.kpn_history.proofs.Common.{None, sym, ap, ◌∙◌, last_or}
 use Rattle.kpn_history.proofs.Events.{last_or-append}
 use Rattle.kpn_history.proofs.history.History.last.Goals as goal
 

@@ -1,6 +1,5 @@
 -- A block does its statements one after the other, a loop its turns.
-use Rattle.std.proofs.Common.{◌-◌, Ok, sym, ap, ◌∙◌, arith}
-use Rattle.kpn_lang.specs.Syntax.{term_of}
+use Rattle.kpn_lang.proofs.Common.{◌-◌, Ok, sym, ap, ◌∙◌, arith, term_of}
 use Rattle.kpn_lang.proofs.Following.{LeadsTo-trans, LeadsTo-leave, LeadsTo-cut, LeadsTo-turn_fault}
 use Rattle.kpn_lang.proofs.Interpreting.{body_at, IsReady-read, LeadsTo-block, LeadsTo-statement, LeadsTo-statement_ends, LeadsTo-one_turn, LeadsTo-turn_that_ends, MayRun-does, trees}
 use Rattle.kpn_lang.proofs.plain.Interpreter.+interpreter.Goals as goal

@@ -1,10 +1,5 @@
 -- A call goes to greater block numbers; a block has done the statements before the index, a loop the turns so far.
-use Rattle.std.proofs.Common.{◌+◌, ◌-◌, ◌*◌, length, drop}
-use Rattle.kpn_lang.specs.Syntax.{term_of, statement_of}
-use Rattle.kpn_lang.specs.View.{statements_of}
-use Rattle.kpn_lang.specs.Tree.{tree_of, tree_over}
-use Rattle.kpn_lang.specs.Run.{run, turns}
-use Rattle.kpn_lang.specs.Plain.{LeadsTo}
+use Rattle.kpn_lang.proofs.Common.{◌+◌, ◌-◌, ◌*◌, length, drop, term_of, statement_of, statements_of, tree_of, tree_over, run, turns, LeadsTo}
 use Rattle.kpn_lang.proofs.Interpreting.{blocks_inside}
 use Rattle.kpn_lang.proofs.plain.Interpreter.+interpreter.Given as goal
 

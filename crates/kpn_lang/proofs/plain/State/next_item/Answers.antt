@@ -1,6 +1,5 @@
 -- A port of what remains is a port of the lists.
-use Rattle.std.proofs.Common.{ap}
-use Rattle.kpn_lang.specs.Plain.{Standing}
+use Rattle.kpn_lang.proofs.Common.{ap, Standing}
 use Rattle.kpn_lang.proofs.Remaining.{port_of_remaining}
 use Rattle.kpn_lang.proofs.plain.State.next_item.Goals as goal
 

@@ -1,6 +1,5 @@
 -- The number of the cell is small.
-use Rattle.std.proofs.Common.{◌+◌, ◌<◌, ◌^◌, arith}
-use Rattle.kpn_lang.specs.Syntax.{term_of}
+use Rattle.kpn_lang.proofs.Common.{◌+◌, ◌<◌, ◌^◌, arith, term_of}
 use Rattle.kpn_lang.proofs.Programs.{limits, set_rules}
 use Rattle.kpn_lang.proofs.plain.State.set.Goals as goal
 

@@ -1,9 +1,6 @@
 -- The parameters, zeros and the cells; all places are at the start of their lists.
 use Rattle.std.proofs.Common.{◌≡◌, append_assoc, arith}
-use Rattle.std.proofs.lemmas.List.{take_all}
-use Rattle.std.proofs.lemmas.Grind.{common_steps}
-use Rattle.kpn_lang.specs.Alone.{start_of}
-use Rattle.kpn_lang.specs.Lists.{remaining}
+use Rattle.kpn_lang.proofs.Common.{take_all, common_steps, start_of, remaining}
 use Rattle.kpn_lang.proofs.Remaining.{remaining-start, Standing-same}
 use Rattle.kpn_lang.proofs.plain.State.start.Goals as goal
 

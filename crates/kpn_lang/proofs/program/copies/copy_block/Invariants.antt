@@ -1,6 +1,5 @@
 -- The copy so far is equal to the statements so far.
-use Rattle.std.proofs.Common.{◌≡◌, take}
-use Rattle.kpn_lang.specs.View.{statements_of}
+use Rattle.kpn_lang.proofs.Common.{◌≡◌, take, statements_of}
 use Rattle.kpn_lang.proofs.program.copies.copy_block.Given as goal
 
 abbrev pub invariant-loop-stmt : goal.invariant-loop-stmt

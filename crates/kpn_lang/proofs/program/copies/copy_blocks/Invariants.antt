@@ -1,6 +1,5 @@
 -- The copies so far are equal to the blocks so far.
-use Rattle.std.proofs.Common.{◌≡◌, take}
-use Rattle.kpn_lang.specs.View.{blocks_of}
+use Rattle.kpn_lang.proofs.Common.{◌≡◌, take, blocks_of}
 use Rattle.kpn_lang.proofs.program.copies.copy_blocks.Given as goal
 
 abbrev pub invariant-loop-block : goal.invariant-loop-block

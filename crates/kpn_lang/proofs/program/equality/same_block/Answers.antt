@@ -1,7 +1,5 @@
 -- Blocks of one length are equal if each pair of statements is.
-use Rattle.std.proofs.Common.{rules, tests}
-use Rattle.std.proofs.lemmas.Iterator.{YieldsList-from_slice, YieldsList-from_zip, cases_from_all}
-use Rattle.kpn_lang.specs.Syntax.{statement_of}
+use Rattle.kpn_lang.proofs.Common.{rules, tests, YieldsList-from_slice, YieldsList-from_zip, cases_from_all, statement_of}
 use Rattle.kpn_lang.proofs.Pairs.{Alike, Differ, same_by_pairs}
 use Rattle.kpn_lang.proofs.program.equality.same_block.Goals as goal
 

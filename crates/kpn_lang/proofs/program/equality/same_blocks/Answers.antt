@@ -1,10 +1,5 @@
 -- As many blocks are equal if each pair is.
-use Rattle.std.proofs.Common.{rules, tests, List}
-use Rattle.std.specs.Global.{Vec}
-use Rattle.std.proofs.lemmas.Iterator.{YieldsList-from_slice, YieldsList-from_zip, cases_from_all}
-use Rattle.kpn_lang.specs.declared.syntax.Stmt.{Stmt}
-use Rattle.kpn_lang.specs.Syntax.{Statement}
-use Rattle.kpn_lang.specs.View.{statements_of}
+use Rattle.kpn_lang.proofs.Common.{rules, tests, List, Vec, YieldsList-from_slice, YieldsList-from_zip, cases_from_all, Stmt, Statement, statements_of}
 use Rattle.kpn_lang.proofs.Pairs.{Alike, Differ, same_by_pairs}
 use Rattle.kpn_lang.proofs.program.equality.same_blocks.Goals as goal
 

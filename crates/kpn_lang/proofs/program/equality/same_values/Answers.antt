@@ -1,8 +1,6 @@
 -- Two lists of numbers are equal if they are as long and each pair of numbers is equal.
-use Rattle.std.proofs.Common.{◌≡◌, sym, ◌∙◌, rules}
-use Rattle.std.specs.Cmp.Lexicographic.{pointwise, pointwise_decides}
+use Rattle.kpn_lang.proofs.Common.{◌≡◌, sym, ◌∙◌, rules, pointwise, pointwise_decides, Decides-int_eq}
 use Rattle.std.specs.Ordering.{int_eq}
-use Rattle.std.proofs.lemmas.Bool.Decides.{Decides-int_eq}
 use Rattle.kpn_lang.proofs.program.equality.same_values.Goals as goal
 
 pub returns : goal.returns

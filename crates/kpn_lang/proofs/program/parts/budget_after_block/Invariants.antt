@@ -1,8 +1,6 @@
 -- What remains pays for the rest of the block exactly as the budget does for the whole.
 use Rattle.std.proofs.Common.{◌≡◌, drop, sum_by}
-use Rattle.kpn_lang.specs.Parts.{statement_nodes}
-use Rattle.kpn_lang.specs.Counting.{budget_after}
-use Rattle.kpn_lang.specs.View.{statements_of}
+use Rattle.kpn_lang.proofs.Common.{statement_nodes, budget_after, statements_of}
 use Rattle.kpn_lang.proofs.program.parts.budget_after_block.Given as goal
 
 abbrev pub invariant-loop-stmt : goal.invariant-loop-stmt

@@ -1,8 +1,6 @@
 -- What remains pays for the rest of the blocks exactly as the budget does for all.
 use Rattle.std.proofs.Common.{◌≡◌, drop, sum_by}
-use Rattle.kpn_lang.specs.Parts.{statement_nodes}
-use Rattle.kpn_lang.specs.Counting.{budget_after}
-use Rattle.kpn_lang.specs.View.{blocks_of}
+use Rattle.kpn_lang.proofs.Common.{statement_nodes, budget_after, blocks_of}
 use Rattle.kpn_lang.proofs.program.parts.budget_after_blocks.Given as goal
 
 abbrev pub invariant-loop-block : goal.invariant-loop-block

@@ -1,5 +1,4 @@
-use Rattle.std.proofs.Common.{◌≡◌, ℕ, ◌<◌, true}
-use Rattle.kpn_machine.specs.Stopped.{has_stopped}
+use Rattle.kpn_machine.proofs.Common.{◌≡◌, ℕ, ◌<◌, true, has_stopped}
 use Rattle.kpn_machine.proofs.machine.Machine.all_stopped.Given as goal
 
 abbrev pub invariant-loop-p : goal.invariant-loop-p

@@ -1,8 +1,6 @@
 -- What an event changes after an item was reserved, it changes before that.
-use Rattle.std.proofs.Common.{◌≡◌, ◌<◌, length, is_ok, to_z, of_z, w64, rules, arith, subst}
+use Rattle.kpn_machine.proofs.Common.{◌≡◌, ◌<◌, length, is_ok, to_z, of_z, w64, rules, arith, subst, HasNumbers, Changes}
 use Rattle.kpn_history.specs.declared.event.Event.TheVariants.{Put, WaitFull}
-use Rattle.kpn_history.specs.Legal.{HasNumbers}
-use Rattle.kpn_machine.specs.Changes.{Changes}
 use Rattle.kpn_machine.proofs.Reserving.{Changes-reserved}
 use Rattle.kpn_machine.proofs.machine.Machine.apply.Goals as goal
 

@@ -1,5 +1,4 @@
-use Rattle.std.proofs.Common.{ap}
-use Rattle.kpn_machine.specs.Machine.{with_closed}
+use Rattle.kpn_machine.proofs.Common.{ap, with_closed}
 use Rattle.kpn_machine.proofs.Calls.{Made-closed}
 use Rattle.kpn_machine.proofs.Due.{Legal-closed}
 use Rattle.kpn_machine.proofs.Running.{IsRun-next}

@@ -1,13 +1,6 @@
-use Rattle.std.proofs.Common.{◌≡◌, ◌<◌, length, get_or, take, refl, arith, sym, ap, ◌∙◌, subst}
+use Rattle.kpn_machine.proofs.Common.{◌≡◌, ◌<◌, length, get_or, take, refl, arith, sym, ap, ◌∙◌, subst, take-suc, take_all, Contains-get_or, in_is_there, ins_distinct, few_ins, AreDistinct, with_end, EndSoFar}
 use Rattle.std.specs.List.{Contains}
 use Rattle.std.proofs.Math.Numerals.{suc-eq-add-one}
-use Rattle.std.proofs.Math.Seq.{take-suc}
-use Rattle.std.proofs.lemmas.List.{take_all}
-use Rattle.std.proofs.lemmas.List.Elements.{Contains-get_or}
-use Rattle.kpn_net.proofs.PortsApart.{in_is_there, ins_distinct, few_ins}
-use Rattle.kpn_net.specs.Waits.{AreDistinct}
-use Rattle.kpn_machine.specs.Machine.{with_end}
-use Rattle.kpn_machine.specs.EndSoFar.{EndSoFar}
 use Rattle.kpn_machine.proofs.Due.{Legal-ended}
 use Rattle.kpn_machine.proofs.Ending.{EndSoFar-none, Made-ended, not_before}
 use Rattle.kpn_machine.proofs.Running.{IsRun-next}

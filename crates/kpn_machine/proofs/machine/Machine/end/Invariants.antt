@@ -1,8 +1,5 @@
-use Rattle.std.proofs.Common.{◌≡◌, ◌≤◌, take}
+use Rattle.kpn_machine.proofs.Common.{◌≡◌, ◌≤◌, take, instance_at, with_end, EndSoFar}
 use Rattle.arrayvec.specs.ArrayVec.{array_vec_len}
-use Rattle.kpn_net.specs.Tables.{instance_at}
-use Rattle.kpn_machine.specs.Machine.{with_end}
-use Rattle.kpn_machine.specs.EndSoFar.{EndSoFar}
 use Rattle.kpn_machine.proofs.machine.Machine.end.Given as goal
 
 abbrev pub invariant-ports : goal.invariant-ports

@@ -1,11 +1,4 @@
-use Rattle.std.proofs.Common.{◌≡◌, to_z, of_z, ap, ◌∙◌, refl, sym, subst, w64, arith, None, false, slice_set}
-use Rattle.std.proofs.lemmas.Int.{to_z-of_z}
-use Rattle.kpn_net.specs.declared.wait.Wait.TheVariants.{Empty}
-use Rattle.kpn_net.specs.Tables.{reader_of}
-use Rattle.kpn_net.specs.Waits.{AreWaits}
-use Rattle.kpn_chan.specs.Channel.{opened, after_put}
-use Rattle.kpn_machine.specs.Machine.{Machine, channel_in}
-use Rattle.kpn_machine.specs.Woken.{is_wait}
+use Rattle.kpn_machine.proofs.Common.{◌≡◌, to_z, of_z, ap, ◌∙◌, refl, sym, subst, w64, arith, None, false, slice_set, to_z-of_z, Empty, reader_of, AreWaits, opened, after_put, Machine, channel_in, is_wait}
 use Rattle.kpn_machine.proofs.Calls.{element, Made-fed}
 use Rattle.kpn_machine.proofs.Due.{Legal-fed}
 use Rattle.kpn_machine.proofs.Mirror.{mirror_kept}

@@ -1,15 +1,5 @@
-use Rattle.std.proofs.Common.{◌<◌, length, to_z, of_z, None, Some, IsSome, false, IsTrue, SFits, w64, rules, refl, sym, ap, ◌∙◌, subst, arith, slice_set}
-use Rattle.std.proofs.lemmas.Int.{to_z-of_z}
-use Rattle.std.proofs.lemmas.Bool.{false≢true}
+use Rattle.kpn_machine.proofs.Common.{◌<◌, length, to_z, of_z, None, Some, IsSome, false, IsTrue, SFits, w64, rules, refl, sym, ap, ◌∙◌, subst, arith, slice_set, to_z-of_z, false≢true, program_of, writer_of, AreWaits, fits, IsGiven, StandsAtRead, opened, next_item, after_get, Get, Machine, frame_in, no_frame, is_wait}
 use Rattle.kpn_net.specs.declared.wait.Wait.TheVariants.{Full}
-use Rattle.kpn_net.specs.Tables.{program_of, writer_of}
-use Rattle.kpn_net.specs.Waits.{AreWaits}
-use Rattle.kpn_step.specs.Frame.{fits}
-use Rattle.kpn_step.specs.Stops.{IsGiven, StandsAtRead}
-use Rattle.kpn_chan.specs.Channel.{opened, next_item, after_get}
-use Rattle.kpn_history.specs.declared.event.Event.TheVariants.{Get}
-use Rattle.kpn_machine.specs.Machine.{Machine, frame_in, no_frame}
-use Rattle.kpn_machine.specs.Woken.{is_wait}
 use Rattle.kpn_machine.proofs.Calls.{element, Made-got}
 use Rattle.kpn_machine.proofs.Due.{Legal-got}
 use Rattle.kpn_machine.proofs.Mirror.{mirror_kept}

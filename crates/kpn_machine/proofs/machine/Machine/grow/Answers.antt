@@ -1,10 +1,5 @@
-use Rattle.std.proofs.Common.{◌<◌, length, IsTrue, refl, sym, ap, ◌∙◌, subst, arith, slice_set}
+use Rattle.kpn_machine.proofs.Common.{◌<◌, length, IsTrue, refl, sym, ap, ◌∙◌, subst, arith, slice_set, writer_of, AreWaits, MayGrowTo, grown_to, Machine, channel_in, is_wait}
 use Rattle.kpn_net.specs.declared.wait.Wait.TheVariants.{Full}
-use Rattle.kpn_net.specs.Tables.{writer_of}
-use Rattle.kpn_net.specs.Waits.{AreWaits}
-use Rattle.kpn_chan.specs.Channel.{MayGrowTo, grown_to}
-use Rattle.kpn_machine.specs.Machine.{Machine, channel_in}
-use Rattle.kpn_machine.specs.Woken.{is_wait}
 use Rattle.kpn_machine.proofs.Growing.{owed_below, owed_may_grow, owed_is_reserved, Made-grown, larger_by_history, Legal-grown}
 use Rattle.kpn_machine.proofs.Running.{IsRun-next}
 use Rattle.kpn_machine.proofs.Woken.{woken_same, told_same}

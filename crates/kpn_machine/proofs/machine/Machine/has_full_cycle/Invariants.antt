@@ -1,7 +1,4 @@
-use Rattle.std.proofs.Common.{ℕ, ◌<◌}
-use Rattle.kpn_net.specs.Finding.{IsSmallestOfCycle}
-use Rattle.kpn_cycle.specs.Scan.{cap_in}
-use Rattle.kpn_machine.specs.Machine.{capacities}
+use Rattle.kpn_machine.proofs.Common.{ℕ, ◌<◌, IsSmallestOfCycle, cap_in, capacities}
 use Rattle.kpn_machine.proofs.machine.Machine.has_full_cycle.Given as goal
 
 abbrev pub invariant-loop-p : goal.invariant-loop-p

@@ -1,5 +1,4 @@
-use Rattle.std.proofs.Common.{◌≡◌, ℕ, ◌<◌, false}
-use Rattle.kpn_machine.specs.Machine.{wait_in, is_full_wait}
+use Rattle.kpn_machine.proofs.Common.{◌≡◌, ℕ, ◌<◌, false, wait_in, is_full_wait}
 use Rattle.kpn_machine.proofs.machine.Machine.has_full_wait.Given as goal
 
 abbrev pub invariant-loop-p : goal.invariant-loop-p

@@ -1,7 +1,4 @@
-use Rattle.std.proofs.Common.{◌≡◌, None, true, false, sym, ap, ◌∙◌, map, List, ℤ, rules}
-use Rattle.std.proofs.lemmas.Bool.{both_ways}
-use Rattle.kpn_chan.specs.Channel.{ChannelState, kept_journal, opened}
-use Rattle.kpn_machine.specs.Machine.{Machine, are_kept}
+use Rattle.kpn_machine.proofs.Common.{◌≡◌, None, true, false, sym, ap, ◌∙◌, map, List, ℤ, rules, both_ways, ChannelState, kept_journal, opened, Machine, are_kept}
 use Rattle.kpn_machine.proofs.Keeping.{all_are_kept, kept_journals}
 use Rattle.kpn_machine.proofs.machine.Machine.into_journals.Goals as goal
 

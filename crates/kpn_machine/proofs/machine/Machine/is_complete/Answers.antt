@@ -1,7 +1,4 @@
-use Rattle.std.proofs.Common.{◌≡◌, ◌≤◌, length, is_some, sym, ap, ◌∙◌, arith}
-use Rattle.kpn_net.specs.declared.wait.Wait.TheVariants.{Empty}
-use Rattle.kpn_net.proofs.Networks.{Writes-writer_of, writer_of-source}
-use Rattle.kpn_machine.specs.Machine.{wait_in}
+use Rattle.kpn_machine.proofs.Common.{◌≡◌, ◌≤◌, length, is_some, sym, ap, ◌∙◌, arith, Empty, Writes-writer_of, writer_of-source, wait_in}
 use Rattle.kpn_machine.proofs.Complete.{walk_begins, tells_source, tells_outside, tells_round, tells_ended, tells_neither, walk_on, next_there}
 use Rattle.kpn_machine.proofs.machine.Machine.is_complete.Goals as goal
 

@@ -1,5 +1,4 @@
-use Rattle.std.proofs.Common.{◌≡◌, ℕ, ◌<◌, true}
-use Rattle.kpn_machine.specs.Stopped.{is_quiet_at}
+use Rattle.kpn_machine.proofs.Common.{◌≡◌, ℕ, ◌<◌, true, is_quiet_at}
 use Rattle.kpn_machine.proofs.machine.Machine.is_quiet.Given as goal
 
 abbrev pub invariant-loop-p : goal.invariant-loop-p

@@ -1,9 +1,4 @@
-use Rattle.std.proofs.Common.{◌≡◌, ◌<◌, length, None, false, nat_lt, IsTrue, slice_set, arith, sym, ap, ◌∙◌, subst}
-use Rattle.std.proofs.lemmas.List.{get_or-set_same}
-use Rattle.kpn_net.specs.Waits.{AreWaits}
-use Rattle.kpn_chan.specs.Channel.{opened, MayJoin, batch_joined}
-use Rattle.kpn_machine.specs.Machine.{Machine, channel_in, with_channel, with_waits}
-use Rattle.kpn_machine.specs.Woken.{AreWoken, ends_by_batch}
+use Rattle.kpn_machine.proofs.Common.{◌≡◌, ◌<◌, length, None, false, nat_lt, IsTrue, slice_set, arith, sym, ap, ◌∙◌, subst, get_or-set_same, AreWaits, opened, MayJoin, batch_joined, Machine, channel_in, with_channel, with_waits, AreWoken, ends_by_batch}
 use Rattle.kpn_machine.proofs.Calls.{element}
 use Rattle.kpn_machine.proofs.Mirror.{mirror_kept}
 use Rattle.kpn_machine.proofs.machine.Machine.join_channel.Goals as goal

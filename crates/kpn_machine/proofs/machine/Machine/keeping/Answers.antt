@@ -1,5 +1,4 @@
-use Rattle.std.proofs.Common.{arith, ap, ◌∙◌, None, false, replicate}
-use Rattle.kpn_net.specs.declared.wait.Wait.TheVariants.{Nobody}
+use Rattle.kpn_machine.proofs.Common.{arith, ap, ◌∙◌, None, false, replicate, Nobody}
 use Rattle.kpn_machine.proofs.Starting.{mirror_at_start, IsRun-start}
 use Rattle.kpn_machine.proofs.machine.Machine.keeping.Goals as goal
 

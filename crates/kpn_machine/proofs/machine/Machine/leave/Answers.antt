@@ -1,11 +1,5 @@
-use Rattle.std.proofs.Common.{None, false, IsTrue, refl, sym, ap, ◌∙◌, subst, arith, slice_set}
+use Rattle.kpn_machine.proofs.Common.{None, false, IsTrue, refl, sym, ap, ◌∙◌, subst, arith, slice_set, writer_of, AreWaits, reader_of-sink, opened, retired, Machine, is_wait}
 use Rattle.kpn_net.specs.declared.wait.Wait.TheVariants.{Full}
-use Rattle.kpn_net.specs.Tables.{writer_of}
-use Rattle.kpn_net.specs.Waits.{AreWaits}
-use Rattle.kpn_net.proofs.Networks.{reader_of-sink}
-use Rattle.kpn_chan.specs.Channel.{opened, retired}
-use Rattle.kpn_machine.specs.Machine.{Machine}
-use Rattle.kpn_machine.specs.Woken.{is_wait}
 use Rattle.kpn_machine.proofs.Calls.{element, Made-left}
 use Rattle.kpn_machine.proofs.Due.{Legal-left}
 use Rattle.kpn_machine.proofs.Mirror.{mirror_kept}

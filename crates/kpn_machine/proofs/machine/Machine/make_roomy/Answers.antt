@@ -1,7 +1,4 @@
-use Rattle.std.proofs.Common.{◌≡◌, ◌<◌, length, is_ok, None, false, IsTrue, sym, ap, ◌∙◌, subst}
-use Rattle.kpn_chan.specs.Channel.{opened}
-use Rattle.kpn_machine.specs.Machine.{with_channel, IsMachine}
-use Rattle.kpn_machine.specs.Run.{IsRun}
+use Rattle.kpn_machine.proofs.Common.{◌≡◌, ◌<◌, length, is_ok, None, false, IsTrue, sym, ap, ◌∙◌, subst, opened, with_channel, IsMachine, IsRun}
 use Rattle.kpn_machine.proofs.Calls.{element}
 use Rattle.kpn_machine.proofs.Mirror.{mirror_kept}
 use Rattle.kpn_machine.proofs.Reserving.{HasRoomOf, has_room_made, room_shape, room_run, room_after, written_back}

@@ -1,10 +1,5 @@
 use Rattle.std.proofs.Common.{◌≡◌, ◌↔◌, ℕ, [], ◌∷◌, ◌++◌, Option, Some, None, IfSome, refl, sym, ap, ◌∙◌, subst}
-use Rattle.kpn_cycle.specs.Scan.{cap_in}
-use Rattle.kpn_history.specs.Legal.{OwesCycleGrowth, waiter_of_last}
-use Rattle.kpn_history.proofs.Events.{last_or-push}
-use Rattle.kpn_history.proofs.Growth.{Some-number}
-use Rattle.kpn_machine.specs.Machine.{capacities}
-use Rattle.kpn_machine.specs.Owed.{IsOwed, IsAwaitedBelowLimit, channel_to_grow}
+use Rattle.kpn_machine.proofs.Common.{cap_in, OwesCycleGrowth, waiter_of_last, last_or-push, Some-number, capacities, IsOwed, IsAwaitedBelowLimit, channel_to_grow}
 use Rattle.kpn_machine.proofs.Growing.{owed_by_finding, owed_by_history, awaited_in_cycle, both}
 use Rattle.kpn_machine.proofs.machine.Machine.owed.Goals as goal
 

@@ -1,12 +1,5 @@
-use Rattle.std.proofs.Common.{◌≡◌, ◌<◌, length, Some, None, sym, ap, ◌∙◌, subst}
-use Rattle.std.proofs.lemmas.Bool.{both_ways}
+use Rattle.kpn_machine.proofs.Common.{◌≡◌, ◌<◌, length, Some, None, sym, ap, ◌∙◌, subst, both_ways, writer_of, IsSmallest, awaited_as_full, smallest_unique, cap_in, capacities, channel_to_grow}
 use Rattle.kpn_net.specs.declared.found.Found.TheVariants.{Full}
-use Rattle.kpn_net.specs.Tables.{writer_of}
-use Rattle.kpn_net.specs.Waits.{IsSmallest, awaited_as_full}
-use Rattle.kpn_net.proofs.Cycles.{smallest_unique}
-use Rattle.kpn_cycle.specs.Scan.{cap_in}
-use Rattle.kpn_machine.specs.Machine.{capacities}
-use Rattle.kpn_machine.specs.Owed.{channel_to_grow}
 use Rattle.kpn_machine.proofs.StopGrowth.{full_number, stop_by_history, stop_now, awaited_at_stop, owed_by_smallest, none_by_smallest, to_grow, not_to_grow, owed_writer}
 use Rattle.kpn_machine.proofs.machine.Machine.owed_at_stop.Goals as goal
 

@@ -1,13 +1,4 @@
-use Rattle.std.proofs.Common.{◌≡◌, ◌<◌, length, to_z, of_z, ap, ◌∙◌, refl, sym, subst, w64, arith, None, false, IsTrue, slice_set}
-use Rattle.std.proofs.lemmas.Int.{to_z-of_z}
-use Rattle.kpn_net.specs.declared.wait.Wait.TheVariants.{Empty}
-use Rattle.kpn_net.specs.Tables.{program_of, reader_of}
-use Rattle.kpn_net.specs.Waits.{AreWaits}
-use Rattle.kpn_step.specs.Frame.{passed, fits}
-use Rattle.kpn_step.specs.Stops.{StandsAtWrite}
-use Rattle.kpn_chan.specs.Channel.{opened, after_put}
-use Rattle.kpn_machine.specs.Machine.{Machine, channel_in, no_frame}
-use Rattle.kpn_machine.specs.Woken.{is_wait}
+use Rattle.kpn_machine.proofs.Common.{◌≡◌, ◌<◌, length, to_z, of_z, ap, ◌∙◌, refl, sym, subst, w64, arith, None, false, IsTrue, slice_set, to_z-of_z, Empty, program_of, reader_of, AreWaits, passed, fits, StandsAtWrite, opened, after_put, Machine, channel_in, no_frame, is_wait}
 use Rattle.kpn_machine.proofs.Calls.{element, Made-put}
 use Rattle.kpn_machine.proofs.Due.{Legal-put}
 use Rattle.kpn_machine.proofs.Mirror.{mirror_kept}

@@ -1,6 +1,4 @@
-use Rattle.std.proofs.Common.{◌<◌, length, is_ok, None, false, IsTrue, sym, ap, ◌∙◌, subst}
-use Rattle.kpn_chan.specs.Channel.{opened}
-use Rattle.kpn_machine.specs.Machine.{with_channel}
+use Rattle.kpn_machine.proofs.Common.{◌<◌, length, is_ok, None, false, IsTrue, sym, ap, ◌∙◌, subst, opened, with_channel}
 use Rattle.kpn_machine.proofs.Calls.{element}
 use Rattle.kpn_machine.proofs.Mirror.{mirror_kept, room_same}
 use Rattle.kpn_machine.proofs.Reserving.{IsMachine-reserved, IsRun-reserved, room_made}

@@ -1,11 +1,5 @@
-use Rattle.std.proofs.Common.{◌++◌, None, false, IsTrue, refl, sym, ap, ◌∙◌, subst, arith, slice_set}
-use Rattle.std.specs.Option.{option_to_list}
+use Rattle.kpn_machine.proofs.Common.{◌++◌, None, false, IsTrue, refl, sym, ap, ◌∙◌, subst, arith, slice_set, option_to_list, writer_of, AreWaits, opened, retired, Machine, is_wait, waiting_writer}
 use Rattle.kpn_net.specs.declared.wait.Wait.TheVariants.{Full}
-use Rattle.kpn_net.specs.Tables.{writer_of}
-use Rattle.kpn_net.specs.Waits.{AreWaits}
-use Rattle.kpn_chan.specs.Channel.{opened, retired}
-use Rattle.kpn_machine.specs.Machine.{Machine}
-use Rattle.kpn_machine.specs.Woken.{is_wait, waiting_writer}
 use Rattle.kpn_machine.proofs.Calls.{element}
 use Rattle.kpn_machine.proofs.Ending.{EndSoFar-more, writer_still_waits, list_of_one}
 use Rattle.kpn_machine.proofs.Mirror.{mirror_kept}

@@ -1,5 +1,4 @@
-use Rattle.std.proofs.Common.{length, sym, ap, ◌∙◌, subst}
-use Rattle.kpn_net.specs.Waits.{AreWaits}
+use Rattle.kpn_machine.proofs.Common.{length, sym, ap, ◌∙◌, subst, AreWaits}
 use Rattle.kpn_machine.proofs.Mirror.{mirror_length}
 use Rattle.kpn_machine.proofs.machine.Machine.smallest_waited.Goals as goal
 

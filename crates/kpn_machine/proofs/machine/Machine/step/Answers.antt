@@ -1,8 +1,4 @@
-use Rattle.std.proofs.Common.{refl, sym, ap, ◌∙◌, subst, arith}
-use Rattle.kpn_net.specs.Tables.{program_of}
-use Rattle.kpn_step.specs.Stops.{IsAdvance, IsWithinQuota, IsAtPort, advanced_of}
-use Rattle.kpn_machine.specs.Machine.{frame_in, no_frame, with_frame, IsMachine}
-use Rattle.kpn_machine.specs.Run.{IsRun}
+use Rattle.kpn_machine.proofs.Common.{refl, sym, ap, ◌∙◌, subst, arith, program_of, IsAdvance, IsWithinQuota, IsAtPort, advanced_of, frame_in, no_frame, with_frame, IsMachine, IsRun}
 use Rattle.kpn_machine.proofs.Calls.{element, frame_in-same}
 use Rattle.kpn_machine.proofs.Moving.{IsMachine-moved, IsRun-moved, advanced_as}
 use Rattle.kpn_machine.proofs.machine.Machine.step.Goals as goal

@@ -1,8 +1,5 @@
-use Rattle.std.proofs.Common.{length, refl, sym, ap, ◌∙◌, subst, arith, inl}
+use Rattle.kpn_machine.proofs.Common.{length, refl, sym, ap, ◌∙◌, subst, arith, inl, program_of, frame_in, no_frame, with_frame, IsMachine, IsRun}
 use Rattle.kpn_step.specs.Stops.{StandsAt}
-use Rattle.kpn_net.specs.Tables.{program_of}
-use Rattle.kpn_machine.specs.Machine.{frame_in, no_frame, with_frame, IsMachine}
-use Rattle.kpn_machine.specs.Run.{IsRun}
 use Rattle.kpn_machine.proofs.Calls.{element, frame_in-same, same_size}
 use Rattle.kpn_machine.proofs.Moving.{IsMachine-moved, IsRun-moved}
 use Rattle.kpn_machine.proofs.machine.Machine.step_to.Goals as goal

@@ -1,12 +1,5 @@
-use Rattle.std.proofs.Common.{to_z, of_z, None, Some, false, IsTrue, SFits, w64, rules, refl, sym, ap, ◌∙◌, subst, arith, slice_set}
-use Rattle.std.proofs.lemmas.Int.{to_z-of_z}
+use Rattle.kpn_machine.proofs.Common.{to_z, of_z, None, Some, false, IsTrue, SFits, w64, rules, refl, sym, ap, ◌∙◌, subst, arith, slice_set, to_z-of_z, writer_of, AreWaits, opened, next_item, after_get, Take, Machine, is_wait}
 use Rattle.kpn_net.specs.declared.wait.Wait.TheVariants.{Full}
-use Rattle.kpn_net.specs.Tables.{writer_of}
-use Rattle.kpn_net.specs.Waits.{AreWaits}
-use Rattle.kpn_chan.specs.Channel.{opened, next_item, after_get}
-use Rattle.kpn_history.specs.declared.event.Event.TheVariants.{Take}
-use Rattle.kpn_machine.specs.Machine.{Machine}
-use Rattle.kpn_machine.specs.Woken.{is_wait}
 use Rattle.kpn_machine.proofs.Calls.{element, Made-taken}
 use Rattle.kpn_machine.proofs.Due.{Legal-taken}
 use Rattle.kpn_machine.proofs.Mirror.{mirror_kept}

@@ -1,6 +1,4 @@
-use Rattle.std.proofs.Common.{ap, ◌∙◌, slice_set}
-use Rattle.kpn_net.specs.declared.wait.Wait.TheVariants.{Empty}
-use Rattle.kpn_machine.specs.Machine.{with_waits}
+use Rattle.kpn_machine.proofs.Common.{ap, ◌∙◌, slice_set, Empty, with_waits}
 use Rattle.kpn_machine.proofs.Calls.{Made-wait_empty}
 use Rattle.kpn_machine.proofs.Due.{Legal-wait_empty}
 use Rattle.kpn_machine.proofs.Ports.{reads_below, reads_own}

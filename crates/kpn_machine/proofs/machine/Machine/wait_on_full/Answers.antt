@@ -1,6 +1,5 @@
-use Rattle.std.proofs.Common.{ap, ◌∙◌, slice_set}
+use Rattle.kpn_machine.proofs.Common.{ap, ◌∙◌, slice_set, with_waits}
 use Rattle.kpn_net.specs.declared.wait.Wait.TheVariants.{Full}
-use Rattle.kpn_machine.specs.Machine.{with_waits}
 use Rattle.kpn_machine.proofs.Calls.{Made-wait_full}
 use Rattle.kpn_machine.proofs.Due.{Legal-wait_full}
 use Rattle.kpn_machine.proofs.Ports.{writes_below, writes_own}

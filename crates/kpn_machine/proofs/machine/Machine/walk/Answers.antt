@@ -1,5 +1,4 @@
-use Rattle.std.proofs.Common.{◌≡◌, ◌<◌, ℕ, List, false, rules, sym, ap, ◌∙◌, subst, length}
-use Rattle.kpn_net.specs.Waits.{AreWaits, IsCycle}
+use Rattle.kpn_machine.proofs.Common.{◌≡◌, ◌<◌, ℕ, List, false, rules, sym, ap, ◌∙◌, subst, length, AreWaits, IsCycle}
 use Rattle.kpn_machine.proofs.Marking.{no_cycle}
 use Rattle.kpn_machine.proofs.Mirror.{mirror_length}
 use Rattle.kpn_machine.proofs.machine.Machine.walk.Goals as goal

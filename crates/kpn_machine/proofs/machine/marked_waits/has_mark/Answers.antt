@@ -1,7 +1,4 @@
-use Rattle.std.proofs.Common.{◌≡◌, false, get_or, sym, ◌∙◌, subst, inl, inr, arith, rules}
-use Rattle.std.proofs.lemmas.Bool.{cases_lt}
-use Rattle.std.proofs.lemmas.List.{get_or_default}
-use Rattle.kpn_machine.specs.Marks.{is_marked}
+use Rattle.kpn_machine.proofs.Common.{◌≡◌, false, get_or, sym, ◌∙◌, subst, inl, inr, arith, rules, cases_lt, get_or_default, is_marked}
 use Rattle.kpn_machine.proofs.machine.marked_waits.has_mark.Goals as goal
 
 pub channels-init : goal.channels-init

@@ -1,5 +1,4 @@
-use Rattle.std.proofs.Common.{◌≡◌, ◌<◌, ℕ, false, get_or}
-use Rattle.kpn_machine.specs.Marks.{is_marked}
+use Rattle.kpn_machine.proofs.Common.{◌≡◌, ◌<◌, ℕ, false, get_or, is_marked}
 use Rattle.kpn_machine.proofs.machine.marked_waits.has_mark.Given as goal
 
 -- none of the channels so far is marked

@@ -1,6 +1,4 @@
-use Rattle.std.proofs.Common.{◌≡◌, ap, ◌∙◌}
-use Rattle.std.specs.Option.{unwrap_or}
-use Rattle.kpn_net.specs.Tables.{channel_at, capacity}
+use Rattle.kpn_machine.proofs.Common.{◌≡◌, ap, ◌∙◌, unwrap_or, channel_at, capacity}
 use Rattle.kpn_machine.proofs.Starting.{len_push, each_push}
 use Rattle.kpn_machine.proofs.machine.start.capacities_at_start.Goals as goal
 

@@ -1,6 +1,4 @@
-use Rattle.std.proofs.Common.{◌≡◌, ℕ, ◌<◌, length, get_or}
-use Rattle.std.specs.Option.{unwrap_or}
-use Rattle.kpn_net.specs.Tables.{channel_at, capacity}
+use Rattle.kpn_machine.proofs.Common.{◌≡◌, ℕ, ◌<◌, length, get_or, unwrap_or, channel_at, capacity}
 use Rattle.kpn_machine.proofs.machine.start.capacities_at_start.Given as goal
 
 abbrev pub invariant-loop-c : goal.invariant-loop-c

@@ -1,7 +1,4 @@
-use Rattle.std.proofs.Common.{◌≡◌, ap, ◌∙◌, None, false}
-use Rattle.kpn_net.specs.Tables.{channel_at, capacity}
-use Rattle.kpn_chan.specs.Channel.{opened, opened_as}
-use Rattle.kpn_history.specs.Keeping.{keeps_items}
+use Rattle.kpn_machine.proofs.Common.{◌≡◌, ap, ◌∙◌, None, false, channel_at, capacity, opened, opened_as, keeps_items}
 use Rattle.kpn_machine.proofs.Starting.{len_push, each_push}
 use Rattle.kpn_machine.proofs.machine.start.channels_at_start.Goals as goal
 

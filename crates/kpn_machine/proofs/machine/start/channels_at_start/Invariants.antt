@@ -1,7 +1,4 @@
-use Rattle.std.proofs.Common.{◌≡◌, ℕ, ◌<◌, length, get_or, None, false}
-use Rattle.kpn_net.specs.Tables.{channel_at, capacity}
-use Rattle.kpn_chan.specs.Channel.{opened, opened_as}
-use Rattle.kpn_history.specs.Keeping.{keeps_items}
+use Rattle.kpn_machine.proofs.Common.{◌≡◌, ℕ, ◌<◌, length, get_or, None, false, channel_at, capacity, opened, opened_as, keeps_items}
 use Rattle.kpn_machine.proofs.machine.start.channels_at_start.Given as goal
 
 abbrev pub invariant-loop-c : goal.invariant-loop-c

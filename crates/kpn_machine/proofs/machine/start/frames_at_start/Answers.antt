@@ -1,8 +1,4 @@
-use Rattle.std.proofs.Common.{◌≡◌, length, ap, sym, ◌∙◌, subst, arith, IsTrue}
-use Rattle.kpn_net.specs.Tables.{instance_at, program_of}
-use Rattle.kpn_net.proofs.Networks.{IsInstance-of}
-use Rattle.kpn_step.specs.Frame.{start_frame, fits}
-use Rattle.kpn_machine.specs.Machine.{no_frame}
+use Rattle.kpn_machine.proofs.Common.{◌≡◌, length, ap, sym, ◌∙◌, subst, arith, IsTrue, instance_at, program_of, IsInstance-of, start_frame, fits, no_frame}
 use Rattle.kpn_machine.proofs.Starting.{len_push, each_push}
 use Rattle.kpn_machine.proofs.machine.start.frames_at_start.Goals as goal
 

@@ -1,7 +1,4 @@
-use Rattle.std.proofs.Common.{◌≡◌, ℕ, ◌<◌, length, get_or, IsTrue}
-use Rattle.kpn_net.specs.Tables.{instance_at, program_of}
-use Rattle.kpn_step.specs.Frame.{start_frame, fits}
-use Rattle.kpn_machine.specs.Machine.{no_frame}
+use Rattle.kpn_machine.proofs.Common.{◌≡◌, ℕ, ◌<◌, length, get_or, IsTrue, instance_at, program_of, start_frame, fits, no_frame}
 use Rattle.kpn_machine.proofs.machine.start.frames_at_start.Given as goal
 
 abbrev pub invariant-loop-p : goal.invariant-loop-p

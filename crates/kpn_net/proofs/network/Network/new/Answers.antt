@@ -1,9 +1,4 @@
-use Rattle.std.proofs.Common.{◌≡◌, ◌≤◌, None, length, sym, ◌∙◌, arith}
-use Rattle.kpn_limits.specs.declared.TheConstants.{MAX_CHANNELS}
-use Rattle.kpn_net.specs.declared.tables.End.TheVariants.{Source, Sink}
-use Rattle.kpn_net.specs.Tables.{writers_of, readers_of}
-use Rattle.kpn_net.specs.Faults.{instances_fault, channels_fault}
-use Rattle.kpn_net.specs.View.{tables_with}
+use Rattle.kpn_net.proofs.Common.{◌≡◌, ◌≤◌, None, length, sym, ◌∙◌, arith, MAX_CHANNELS, Source, Sink, writers_of, readers_of, instances_fault, channels_fault, tables_with}
 use Rattle.kpn_net.proofs.Networks.{InstancesSound-from, ChannelsSound-from, Sizes-from, or_else-both}
 use Rattle.kpn_net.proofs.SideLemmas.{Keeps-nobody, length-fresh, ends-kept}
 use Rattle.kpn_net.proofs.network.Network.new.Goals as goal

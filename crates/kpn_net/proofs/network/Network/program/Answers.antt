@@ -1,8 +1,4 @@
-use Rattle.std.proofs.Common.{◌<◌, length, sym, ap, ◌∙◌, subst, arith}
-use Rattle.std.proofs.lemmas.List.{get_or_default}
-use Rattle.kpn_net.specs.declared.tables.Instance.{Instance}
-use Rattle.kpn_net.specs.Tables.{Tables, program_at, program_of}
-use Rattle.kpn_net.specs.View.{tables_of}
+use Rattle.kpn_net.proofs.Common.{◌<◌, length, sym, ap, ◌∙◌, subst, arith, get_or_default, Instance, Tables, program_at, program_of, tables_of}
 use Rattle.kpn_net.proofs.Networks.{IsInstance, IsInstance-at}
 use Rattle.kpn_net.proofs.network.Network.program.Goals as goal
 

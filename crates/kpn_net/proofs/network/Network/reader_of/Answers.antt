@@ -1,7 +1,5 @@
 -- There is an end for each channel.
-use Rattle.std.proofs.Common.{◌∙◌, arith}
-use Rattle.kpn_net.specs.Tables.{reader_of}
-use Rattle.kpn_net.specs.View.{tables_of}
+use Rattle.kpn_net.proofs.Common.{◌∙◌, arith, reader_of, tables_of}
 use Rattle.kpn_net.proofs.SideLemmas.{end_is_there, end_is}
 use Rattle.kpn_net.proofs.network.Network.reader_of.Goals as goal
 

@@ -1,10 +1,7 @@
 -- The copy is kept as the network is, since no rule and no end of a channel depends on the policy or the growth.
-use Rattle.std.proofs.Common.{◌≡◌, List, ◌∙◌}
+use Rattle.kpn_net.proofs.Common.{◌≡◌, List, ◌∙◌, Growth, Tables, under, tables_of, IsKeptNetwork}
 use Rattle.kpn_net.specs.declared.tables.End.{End}
 use Rattle.kpn_net.specs.declared.tables.Policy.{Policy}
-use Rattle.kpn_net.specs.declared.tables.Growth.{Growth}
-use Rattle.kpn_net.specs.Tables.{Tables, under}
-use Rattle.kpn_net.specs.View.{tables_of, IsKeptNetwork}
 use Rattle.kpn_net.proofs.network.Network.under.Goals as goal
 
 kept_under : (policy : Policy) (growth : Growth) (t : Tables) (writing reading : List End) →

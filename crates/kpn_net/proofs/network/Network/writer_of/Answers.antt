@@ -1,7 +1,5 @@
 -- There is an end for each channel.
-use Rattle.std.proofs.Common.{◌∙◌, arith}
-use Rattle.kpn_net.specs.Tables.{writer_of}
-use Rattle.kpn_net.specs.View.{tables_of}
+use Rattle.kpn_net.proofs.Common.{◌∙◌, arith, writer_of, tables_of}
 use Rattle.kpn_net.proofs.SideLemmas.{end_is_there, end_is}
 use Rattle.kpn_net.proofs.network.Network.writer_of.Goals as goal
 

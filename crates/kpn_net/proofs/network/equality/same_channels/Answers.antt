@@ -1,7 +1,5 @@
 -- As many are equal if each pair is.
-use Rattle.std.proofs.Common.{rules, tests}
-use Rattle.std.proofs.lemmas.Iterator.{YieldsList-from_slice, YieldsList-from_zip, cases_from_all}
-use Rattle.kpn_lang.proofs.Pairs.{Alike, Differ}
+use Rattle.kpn_net.proofs.Common.{rules, tests, YieldsList-from_slice, YieldsList-from_zip, cases_from_all, Alike, Differ}
 use Rattle.kpn_net.proofs.Pairs.{same_pairs}
 use Rattle.kpn_net.proofs.network.equality.same_channels.Goals as goal
 

@@ -1,5 +1,4 @@
-use Rattle.std.proofs.Common.{sym}
-use Rattle.std.proofs.lemmas.List.{append-nil, take_all}
+use Rattle.kpn_net.proofs.Common.{sym, append-nil, take_all}
 use Rattle.kpn_net.proofs.SideLemmas.{Keeps-same, Keeps-joined}
 use Rattle.kpn_net.proofs.network.sides.join.Goals as goal
 

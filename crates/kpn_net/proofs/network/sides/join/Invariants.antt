@@ -1,7 +1,5 @@
-use Rattle.std.proofs.Common.{ℕ, List, ◌++◌, take}
+use Rattle.kpn_net.proofs.Common.{ℕ, List, ◌++◌, take, ends_among, Keeps}
 use Rattle.kpn_net.specs.declared.tables.End.{End}
-use Rattle.kpn_net.specs.Tables.{ends_among}
-use Rattle.kpn_net.specs.Sides.{Keeps}
 use Rattle.kpn_net.proofs.network.sides.join.Given as goal
 
 abbrev pub invariant-loop-channel : goal.invariant-loop-channel

@@ -1,5 +1,4 @@
-use Rattle.std.proofs.Common.{subst}
-use Rattle.kpn_pool_desk.specs.Desk.{Desk}
+use Rattle.kpn_pool_desk.proofs.Common.{subst, Desk}
 use Rattle.kpn_pool_desk.specs.Invariant.{AreBlockedCounts}
 use Rattle.kpn_pool_desk.proofs.desk.Desk.counts.Goals as goal
 

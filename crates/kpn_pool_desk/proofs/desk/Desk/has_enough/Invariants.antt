@@ -1,5 +1,4 @@
-use Rattle.std.proofs.Common.{◌≡◌, ℕ, ◌<◌, ◌≤◌, true, length}
-use Rattle.kpn_net.specs.Tables.{channel_at, is_sink}
+use Rattle.kpn_pool_desk.proofs.Common.{◌≡◌, ℕ, ◌<◌, ◌≤◌, true, length, channel_at, is_sink}
 use Rattle.kpn_history.specs.Channels.{read_on}
 use Rattle.kpn_pool_desk.proofs.desk.Desk.has_enough.Given as goal
 

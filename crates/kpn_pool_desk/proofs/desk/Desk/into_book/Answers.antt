@@ -1,7 +1,5 @@
-use Rattle.std.proofs.Common.{◌≡◌, ◌+◌, List, [], ◌∷◌, ◌++◌, length, refl, ap, ◌∙◌, arith, rules, vec_len}
-use Rattle.std.specs.List.{sum_by}
+use Rattle.kpn_pool_desk.proofs.Common.{◌≡◌, ◌+◌, List, [], ◌∷◌, ◌++◌, length, refl, ap, ◌∙◌, arith, rules, vec_len, sum_by, Seat}
 use Rattle.std.proofs.lemmas.List.Sums.{sum_by-append}
-use Rattle.kpn_pool_desk.specs.Seat.{Seat}
 use Rattle.kpn_pool_desk.proofs.desk.Desk.into_book.Goals as goal
 
 -- the commits of the last seat and of the others

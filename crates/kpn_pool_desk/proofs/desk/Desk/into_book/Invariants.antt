@@ -1,6 +1,4 @@
-use Rattle.std.proofs.Common.{◌≡◌, ◌+◌, vec_len}
-use Rattle.std.specs.List.{sum_by}
-use Rattle.kpn_pool_desk.specs.Seat.{Seat}
+use Rattle.kpn_pool_desk.proofs.Common.{◌≡◌, ◌+◌, vec_len, sum_by, Seat}
 use Rattle.kpn_pool_desk.proofs.desk.Desk.into_book.Given as goal
 
 abbrev pub invariant-loop-seat : goal.invariant-loop-seat

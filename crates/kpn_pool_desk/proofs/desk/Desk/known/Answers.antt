@@ -1,6 +1,4 @@
-use Rattle.std.proofs.Common.{subst}
-use Rattle.kpn_book.specs.Kept.{IsBook}
-use Rattle.kpn_pool_desk.specs.Desk.{Desk}
+use Rattle.kpn_pool_desk.proofs.Common.{subst, IsBook, Desk}
 use Rattle.kpn_pool_desk.proofs.desk.Desk.known.Goals as goal
 
 pub returns-clause-counts : goal.returns-clause-counts

@@ -1,5 +1,4 @@
-use Rattle.std.proofs.Common.{sym, ◌∙◌, subst}
-use Rattle.kpn_book.specs.Remembering.{Remembers}
+use Rattle.kpn_pool_desk.proofs.Common.{sym, ◌∙◌, subst, Remembers}
 use Rattle.kpn_pool_desk.proofs.desk.Desk.new.Goals as goal
 
 pub invariant_of-result : goal.invariant_of-result

@@ -1,9 +1,5 @@
-use Rattle.std.proofs.Common.{◌≡◌, subst}
+use Rattle.kpn_pool_desk.proofs.Common.{◌≡◌, subst, AreKept, ShowsJournals, run_of, below_of, at_rest_of, shows_journals, Desk}
 use Rattle.kpn_chan.specs.declared.unread.Unread.TheVariants.{Forgotten}
-use Rattle.kpn_machine.specs.Machine.{AreKept}
-use Rattle.kpn_book.specs.Snapshot.{ShowsJournals}
-use Rattle.kpn_book.proofs.Snapshots.{run_of, below_of, at_rest_of, shows_journals}
-use Rattle.kpn_pool_desk.specs.Desk.{Desk}
 use Rattle.kpn_pool_desk.proofs.desk.Desk.snapshot.Goals as goal
 
 pub returns-in-Ok-clause-run : goal.returns-in-Ok-clause-run

@@ -1,5 +1,4 @@
-use Rattle.std.proofs.Common.{◌≡◌, true, refl, rules}
-use Rattle.kpn_pool_desk.specs.RegionTurn.{no_take}
+use Rattle.kpn_pool_desk.proofs.Common.{◌≡◌, true, refl, rules, no_take}
 use Rattle.kpn_pool_desk.proofs.Dividing.{one_take_on}
 use Rattle.kpn_pool_desk.proofs.Seating.{still_with_book}
 use Rattle.kpn_pool_desk.proofs.desk.Desk.take_from.Goals as goal

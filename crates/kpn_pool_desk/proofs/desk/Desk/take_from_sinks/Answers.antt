@@ -1,5 +1,4 @@
-use Rattle.std.proofs.Common.{refl}
-use Rattle.kpn_pool_desk.specs.RegionTurn.{no_take}
+use Rattle.kpn_pool_desk.proofs.Common.{refl, no_take}
 use Rattle.kpn_pool_desk.proofs.Dividing.{takes_on_from}
 use Rattle.kpn_pool_desk.proofs.Seating.{still_with_book}
 use Rattle.kpn_pool_desk.proofs.desk.Desk.take_from_sinks.Goals as goal

@@ -1,6 +1,4 @@
-use Rattle.std.proofs.Common.{◌≡◌}
-use Rattle.kpn_pool_desk.specs.Desk.{with_book}
-use Rattle.kpn_pool_desk.specs.RegionTurn.{TakesOn}
+use Rattle.kpn_pool_desk.proofs.Common.{◌≡◌, with_book, TakesOn}
 use Rattle.kpn_pool_desk.proofs.desk.Desk.take_from_sinks.Given as goal
 
 abbrev pub invariant-channels : goal.invariant-channels

@@ -1,6 +1,4 @@
-use Rattle.std.proofs.Common.{◌≡◌, ◌<◌, ◌+◌, ℕ, length, Some}
-use Rattle.std.specs.Prelude.{slice_get}
-use Rattle.kpn_pool_desk.specs.Seat.{new_seat}
+use Rattle.kpn_pool_desk.proofs.Common.{◌≡◌, ◌<◌, ◌+◌, ℕ, length, Some, slice_get, new_seat}
 use Rattle.kpn_pool_desk.proofs.desk.Desk.with_seats.Given as goal
 
 abbrev pub invariant-loop-number : goal.invariant-loop-number

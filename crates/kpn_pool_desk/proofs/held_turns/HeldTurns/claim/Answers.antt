@@ -1,8 +1,5 @@
-use Rattle.std.proofs.Common.{◌≡◌, length, drop, sym, ◌∙◌, subst, rules, arith}
-use Rattle.std.proofs.lemmas.List.{take-append-le, take_all}
+use Rattle.kpn_pool_desk.proofs.Common.{◌≡◌, length, drop, sym, ◌∙◌, subst, rules, arith, take-append-le, take_all, refill, ClaimsInVain}
 use Rattle.kpn_book.proofs.FirstOfQueue.{refused_with}
-use Rattle.std.specs.List.{refill}
-use Rattle.kpn_pool_desk.specs.HeldTurns.{ClaimsInVain}
 use Rattle.kpn_pool_desk.proofs.held_turns.HeldTurns.claim.Goals as goal
 
 pub returns-in_err-self-inside-clause-back : goal.returns-in_err-self-inside-clause-back

@@ -1,6 +1,5 @@
-use Rattle.std.proofs.Common.{Bool, rules, refl, sym, ap, ◌∙◌, subst, arith, Some, None}
+use Rattle.kpn_pool_desk.proofs.Common.{Bool, rules, refl, sym, ap, ◌∙◌, subst, arith, Some, None, SettlesTurns}
 use Rattle.kpn_pool_desk.specs.declared.seat.Why.TheVariants.{Abandoned, NoMemory}
-use Rattle.kpn_pool_desk.specs.HeldTurns.{SettlesTurns}
 use Rattle.kpn_pool_desk.proofs.Batches.{keeps_halts, settled}
 use Rattle.kpn_pool_desk.proofs.held_turns.HeldTurns.settle.Goals as goal
 

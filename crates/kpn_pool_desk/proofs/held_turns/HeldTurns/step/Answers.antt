@@ -1,5 +1,4 @@
-use Rattle.std.proofs.Common.{length, refl, sym, ◌∙◌}
-use Rattle.std.specs.List.{length_refill}
+use Rattle.kpn_pool_desk.proofs.Common.{length, refl, sym, ◌∙◌, length_refill}
 use Rattle.kpn_pool_desk.proofs.held_turns.HeldTurns.step.Goals as goal
 
 pub invariant_of-self : goal.invariant_of-self

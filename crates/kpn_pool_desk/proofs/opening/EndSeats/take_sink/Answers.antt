@@ -1,5 +1,4 @@
-use Rattle.std.proofs.Common.{◌≡◌, ◌∙◌, ◌<◌, ◌≤◌, length, get_or, rules}
-use Rattle.kpn_pool_desk.specs.OutsideSeats.{EndSeat}
+use Rattle.kpn_pool_desk.proofs.Common.{◌≡◌, ◌∙◌, ◌<◌, ◌≤◌, length, get_or, rules, EndSeat}
 use Rattle.kpn_pool_desk.proofs.Seating.{none_more, none_there}
 use Rattle.kpn_pool_desk.proofs.opening.EndSeats.take_sink.Goals as goal
 

@@ -1,6 +1,4 @@
-use Rattle.std.proofs.Common.{◌≡◌, ◌≢◌, take}
-use Rattle.std.specs.List.{All}
-use Rattle.kpn_pool_desk.specs.OutsideSeats.{EndSeat}
+use Rattle.kpn_pool_desk.proofs.Common.{◌≡◌, ◌≢◌, take, All, EndSeat}
 use Rattle.kpn_pool_desk.proofs.opening.EndSeats.take_sink.Given as goal
 
 abbrev pub invariant-seats : goal.invariant-seats

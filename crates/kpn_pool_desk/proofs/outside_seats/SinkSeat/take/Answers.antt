@@ -1,7 +1,4 @@
-use Rattle.std.proofs.Common.{◌≡◌, true, sym, ap, subst}
-use Rattle.kpn_net.specs.Tables.{channel_at, is_sink}
-use Rattle.kpn_net.proofs.Networks.{sink_there}
-use Rattle.kpn_pool_desk.specs.Desk.{Desk, with_book}
+use Rattle.kpn_pool_desk.proofs.Common.{◌≡◌, true, sym, ap, subst, channel_at, is_sink, sink_there, Desk, with_book}
 use Rattle.kpn_pool_desk.proofs.Keeping.{takes, still_desk, same_desk}
 use Rattle.kpn_pool_desk.proofs.outside_seats.SinkSeat.take.Goals as goal
 

@@ -1,8 +1,4 @@
-use Rattle.std.proofs.Common.{◌≡◌, true, refl, sym, subst, ◌∙◌}
-use Rattle.std.proofs.lemmas.Result.{err_from_is_err_and}
-use Rattle.kpn_net.specs.Tables.{channel_at, is_sink}
-use Rattle.kpn_book.specs.Refusals.{RefusesTake}
-use Rattle.kpn_pool_desk.specs.OutsideSeats.{TakesFirst, MayRefuseTake}
+use Rattle.kpn_pool_desk.proofs.Common.{◌≡◌, true, refl, sym, subst, ◌∙◌, err_from_is_err_and, channel_at, is_sink, RefusesTake, TakesFirst, MayRefuseTake}
 use Rattle.kpn_pool_desk.proofs.Recording.{as_before, none_taken, takes_on, taken_less, taken_last, took_all}
 use Rattle.kpn_pool_desk.proofs.Keeping.{begins}
 use Rattle.kpn_pool_desk.proofs.Seating.{still_with_book}

@@ -1,8 +1,4 @@
-use Rattle.std.proofs.Common.{◌≡◌, length}
-use Rattle.kpn_chan.specs.Channel.{unread}
-use Rattle.kpn_machine.specs.Machine.{channel_in}
-use Rattle.kpn_pool_desk.specs.Desk.{with_book}
-use Rattle.kpn_pool_desk.specs.OutsideSeats.{TakesFirst}
+use Rattle.kpn_pool_desk.proofs.Common.{◌≡◌, length, unread, channel_in, with_book, TakesFirst}
 use Rattle.kpn_pool_desk.proofs.outside_seats.SinkSeat.take_all.Given as goal
 
 abbrev pub invariant-items : goal.invariant-items

@@ -1,5 +1,4 @@
-use Rattle.std.proofs.Common.{ap}
-use Rattle.kpn_pool_desk.specs.Desk.{Desk, with_book}
+use Rattle.kpn_pool_desk.proofs.Common.{ap, Desk, with_book}
 use Rattle.kpn_pool_desk.proofs.Keeping.{appends, still_desk, same_desk}
 use Rattle.kpn_pool_desk.proofs.outside_seats.SourceSeat.feed.Goals as goal
 

@@ -1,11 +1,6 @@
-use Rattle.std.proofs.Common.{◌≡◌, true, ℤ, pos, get_or, ap, ◌∙◌, subst, rules, w64, SFits, arith}
+use Rattle.kpn_pool_desk.proofs.Common.{◌≡◌, true, ℤ, pos, get_or, ap, ◌∙◌, subst, rules, w64, SFits, arith, err_from_is_err_and, channel_at, is_source, AppendsAll, RefusesFeed, EndSeat, AreRecorded, MayRefuseFeed}
 use Rattle.std.proofs.lemmas.Int.{to_z-of_z}
-use Rattle.std.proofs.lemmas.Result.{err_from_is_err_and}
-use Rattle.kpn_net.specs.Tables.{channel_at, is_source}
 use Rattle.kpn_history.specs.declared.event.Event.TheVariants as event
-use Rattle.kpn_book.specs.Appending.{AppendsAll}
-use Rattle.kpn_book.specs.Refusals.{RefusesFeed}
-use Rattle.kpn_pool_desk.specs.OutsideSeats.{EndSeat, AreRecorded, MayRefuseFeed}
 use Rattle.kpn_pool_desk.proofs.Recording.{as_before, fed_then, fed_until}
 use Rattle.kpn_pool_desk.proofs.Seating.{fed_more, still_with_book}
 use Rattle.kpn_pool_desk.proofs.outside_seats.SourceSeat.feed_all.Goals as goal

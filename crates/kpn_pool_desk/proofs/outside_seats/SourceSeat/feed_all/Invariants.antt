@@ -1,9 +1,5 @@
-use Rattle.std.proofs.Common.{◌≡◌, ◌<◌, true, ◌++◌, take}
-use Rattle.kpn_net.specs.Tables.{channel_at, is_source}
+use Rattle.kpn_pool_desk.proofs.Common.{◌≡◌, ◌<◌, true, ◌++◌, take, channel_at, is_source, AppendsAll, with_book, AreRecorded}
 use Rattle.kpn_history.specs.declared.event.Event.TheVariants as event
-use Rattle.kpn_book.specs.Appending.{AppendsAll}
-use Rattle.kpn_pool_desk.specs.Desk.{with_book}
-use Rattle.kpn_pool_desk.specs.OutsideSeats.{AreRecorded}
 use Rattle.kpn_pool_desk.proofs.outside_seats.SourceSeat.feed_all.Given as goal
 
 abbrev pub invariant-items : goal.invariant-items

@@ -1,11 +1,5 @@
-use Rattle.std.proofs.Common.{rules, ◌≡◌, ◌∙◌, true, List, ℤ, length, ap, sym, subst, eqb-true}
+use Rattle.kpn_pool_desk.proofs.Common.{rules, ◌≡◌, ◌∙◌, true, List, ℤ, length, ap, sym, subst, eqb-true, nil_from_length, IsPrefix, channel_at, is_source, channel_in, shown_on, begins_shown}
 use Rattle.std.specs.Bool.{IsTrue}
-use Rattle.std.proofs.lemmas.List.{nil_from_length}
-use Rattle.kpn_lang.specs.Prefix.{IsPrefix}
-use Rattle.kpn_net.specs.Tables.{channel_at, is_source}
-use Rattle.kpn_machine.specs.Machine.{channel_in}
-use Rattle.kpn_book.specs.Snapshot.{shown_on}
-use Rattle.kpn_book.proofs.Snapshots.{begins_shown}
 use Rattle.kpn_pool_desk.proofs.Seating.{kept_all}
 use Rattle.kpn_pool_desk.proofs.outside_seats.SourceSeat.snapshot.Goals as goal
 use Rattle.kpn_pool_desk.proofs.outside_seats.SourceSeat.snapshot.Goals.{else-not-is_empty-via-then-not-is_empty+else-not-journal_begins, else-not-is_empty-via-else-not-is_empty}

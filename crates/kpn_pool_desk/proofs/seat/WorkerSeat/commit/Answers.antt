@@ -1,12 +1,4 @@
-use Rattle.std.proofs.Common.{◌≡◌, ◌+◌, ◌<◌, sym, ap, ◌∙◌, subst, arith}
-use Rattle.std.proofs.lemmas.Result.{err_from_is_err_and}
-use Rattle.kpn_net.specs.Tables.{program_of}
-use Rattle.kpn_step.specs.Stops.{advanced_of}
-use Rattle.kpn_book.specs.Book.{held_count}
-use Rattle.kpn_book.specs.Commits.{Commits}
-use Rattle.kpn_book.specs.Refusals.{RefusesCommit}
-use Rattle.kpn_book.proofs.Remembered.{commits_much}
-use Rattle.kpn_pool_desk.specs.Desk.{Desk}
+use Rattle.kpn_pool_desk.proofs.Common.{◌≡◌, ◌+◌, ◌<◌, sym, ap, ◌∙◌, subst, arith, err_from_is_err_and, program_of, advanced_of, held_count, Commits, RefusesCommit, commits_much, Desk}
 use Rattle.kpn_pool_desk.proofs.Keeping.{counted_desk}
 use Rattle.kpn_pool_desk.proofs.seat.WorkerSeat.commit.Goals as goal
 

@@ -1,5 +1,4 @@
-use Rattle.std.proofs.Common.{◌∙◌, sym, arith}
-use Rattle.kpn_book.proofs.Remembered.{region_much}
+use Rattle.kpn_pool_desk.proofs.Common.{◌∙◌, sym, arith, region_much}
 use Rattle.kpn_pool_desk.proofs.Keeping.{counted_desk}
 use Rattle.kpn_pool_desk.proofs.Dividing.{region_further}
 use Rattle.kpn_pool_desk.proofs.seat.WorkerSeat.commit_region.Goals as goal

@@ -1,11 +1,5 @@
-use Rattle.std.proofs.Common.{sym, ap, ◌∙◌, subst, inl, inr}
-use Rattle.kpn_net.specs.Tables.{program_of}
-use Rattle.kpn_step.specs.Stops.{advanced_of}
-use Rattle.kpn_book.specs.Book.{IsHeld}
-use Rattle.kpn_book.specs.Commits.{IsOwnAdvance, Commits}
+use Rattle.kpn_pool_desk.proofs.Common.{sym, ap, ◌∙◌, subst, inl, inr, program_of, advanced_of, IsHeld, IsOwnAdvance, Commits, RefusesCommit, Desk}
 use Rattle.kpn_book.specs.declared.answers.Refused.TheVariants.{NoMemory}
-use Rattle.kpn_book.specs.Refusals.{RefusesCommit}
-use Rattle.kpn_pool_desk.specs.Desk.{Desk}
 use Rattle.kpn_pool_desk.proofs.Batches.{commit_alone, foreign_unless, steps_made}
 use Rattle.kpn_pool_desk.proofs.turn.Turn.commit.Goals as goal
 

@@ -1,5 +1,4 @@
-use Rattle.std.proofs.Common.{◌≡◌, None, subst, rules}
-use Rattle.kpn_pool_desk.specs.HeldTurns.{SettlesTurns}
+use Rattle.kpn_pool_desk.proofs.Common.{◌≡◌, None, subst, rules, SettlesTurns}
 use Rattle.kpn_pool_desk.proofs.Batches.{comes_back}
 use Rattle.kpn_pool_desk.proofs.worker.Worker.come_back_with_turns.Goals.{then-lets_all, else-lets_all}
 use Rattle.kpn_pool_desk.proofs.worker.Worker.come_back_with_turns.Goals as goal

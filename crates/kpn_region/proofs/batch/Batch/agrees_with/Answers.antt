@@ -1,5 +1,4 @@
-use Rattle.std.proofs.Common.{◌≡◌, true, false, rules}
-use Rattle.std.proofs.lemmas.Bool.{both_ways, false≢true}
+use Rattle.kpn_region.proofs.Common.{◌≡◌, true, false, rules, both_ways, false≢true}
 use Rattle.kpn_region.proofs.batch.Batch.agrees_with.Goals as goal
 
 pub returns-then-not-processes_agree : goal.returns-then-not-processes_agree

@@ -1,7 +1,4 @@
-use Rattle.std.proofs.Common.{◌≡◌, ℕ, ◌≤◌, Some, refl, sym, subst}
-use Rattle.kpn_chan.specs.Channel.{ChannelState}
-use Rattle.kpn_region.specs.Local.{SideState, side_at}
-use Rattle.kpn_region.specs.Joining.{ChannelAgrees}
+use Rattle.kpn_region.proofs.Common.{◌≡◌, ℕ, ◌≤◌, Some, refl, sym, subst, ChannelState, SideState, side_at, ChannelAgrees}
 use Rattle.kpn_region.proofs.Comparing.{unseen_agrees}
 use Rattle.kpn_region.proofs.batch.Batch.channel_agrees.Goals as goal
 

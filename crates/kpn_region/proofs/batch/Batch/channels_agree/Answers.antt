@@ -1,8 +1,4 @@
-use Rattle.std.proofs.Common.{◌≡◌, ◌<◌, true, false, length, ap, subst, inl, inr, arith, rules}
-use Rattle.std.proofs.lemmas.Bool.{both_ways, cases_lt, false≢true}
-use Rattle.kpn_machine.specs.Machine.{channel_in}
-use Rattle.kpn_region.specs.Local.{side_at}
-use Rattle.kpn_region.specs.Joining.{ChannelAgrees}
+use Rattle.kpn_region.proofs.Common.{◌≡◌, ◌<◌, true, false, length, ap, subst, inl, inr, arith, rules, both_ways, cases_lt, false≢true, channel_in, side_at, ChannelAgrees}
 use Rattle.kpn_region.proofs.batch.Batch.channels_agree.Goals as goal
 
 pub channel_agrees-requires-clause-channel : goal.channel_agrees-requires-clause-channel

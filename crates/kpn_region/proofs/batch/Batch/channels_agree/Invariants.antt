@@ -1,7 +1,4 @@
-use Rattle.std.proofs.Common.{ℕ, ◌<◌}
-use Rattle.kpn_machine.specs.Machine.{channel_in}
-use Rattle.kpn_region.specs.Local.{side_at}
-use Rattle.kpn_region.specs.Joining.{ChannelAgrees}
+use Rattle.kpn_region.proofs.Common.{ℕ, ◌<◌, channel_in, side_at, ChannelAgrees}
 use Rattle.kpn_region.proofs.batch.Batch.channels_agree.Given as goal
 
 abbrev pub invariant-channels : goal.invariant-channels

@@ -1,6 +1,4 @@
-use Rattle.std.proofs.Common.{◌≡◌, ◌∙◌, sym, subst, ap, is_ok, cond, map, slice_set}
-use Rattle.kpn_region.specs.Local.{no_side, claimed_with, as_claimed, with_side}
-use Rattle.kpn_region.specs.Batch.{Batch, IsFresh}
+use Rattle.kpn_region.proofs.Common.{◌≡◌, ◌∙◌, sym, subst, ap, is_ok, cond, map, slice_set, no_side, claimed_with, as_claimed, with_side, Batch, IsFresh}
 use Rattle.kpn_region.proofs.Batches.{local_of, claims_whole, channel_claimed, channel_fresh, channel_is_claimed}
 use Rattle.kpn_region.proofs.batch.Batch.claim_channel.Given as given
 use Rattle.kpn_region.proofs.batch.Batch.claim_channel.Goals as goal

@@ -1,7 +1,4 @@
-use Rattle.std.proofs.Common.{◌≡◌, ◌∙◌, sym, subst, ap, is_ok, cond, map, slice_set, take}
-use Rattle.kpn_chan.specs.Channel.{readable}
-use Rattle.kpn_region.specs.Local.{no_side, claimed_with, as_claimed, with_side}
-use Rattle.kpn_region.specs.Batch.{Batch, IsFresh}
+use Rattle.kpn_region.proofs.Common.{◌≡◌, ◌∙◌, sym, subst, ap, is_ok, cond, map, slice_set, take, readable, no_side, claimed_with, as_claimed, with_side, Batch, IsFresh}
 use Rattle.kpn_region.proofs.Batches.{local_of, claims_whole, channel_claimed, channel_fresh, channel_is_claimed}
 use Rattle.kpn_region.proofs.batch.Batch.claim_front.Given as given
 use Rattle.kpn_region.proofs.batch.Batch.claim_front.Goals as goal

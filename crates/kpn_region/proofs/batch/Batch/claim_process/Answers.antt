@@ -1,11 +1,4 @@
-use Rattle.std.proofs.Common.{◌<◌, length, get_or, inl, sym, ap, ◌∙◌, subst}
-use Rattle.std.proofs.lemmas.List.{get_or_read}
-use Rattle.kpn_region.specs.Batch.{IsBatch, IsFresh, batch_of}
-use Rattle.std.proofs.Common.{slice_set, true, None, IsTrue}
-use Rattle.kpn_net.specs.Tables.{program_of}
-use Rattle.kpn_step.specs.Frame.{fits}
-use Rattle.kpn_machine.specs.Machine.{no_frame}
-use Rattle.kpn_machine.proofs.Calls.{same_size}
+use Rattle.kpn_region.proofs.Common.{◌<◌, length, get_or, inl, sym, ap, ◌∙◌, subst, get_or_read, IsBatch, IsFresh, batch_of, slice_set, true, None, IsTrue, program_of, fits, no_frame, same_size}
 use Rattle.kpn_region.proofs.Batches.{process_claimed}
 use Rattle.kpn_region.proofs.batch.Batch.claim_process.Given as given
 use Rattle.kpn_region.proofs.batch.Batch.claim_process.Goals as goal

@@ -1,10 +1,4 @@
-use Rattle.std.proofs.Common.{◌<◌, false, None, length, get_or, replicate, ◌∙◌, sym, ap, subst}
-use Rattle.kpn_net.specs.Tables.{program_of}
-use Rattle.kpn_history.specs.Talks.{process_events}
-use Rattle.kpn_machine.specs.Machine.{no_frame}
-use Rattle.kpn_machine.proofs.Calls.{same_size}
-use Rattle.kpn_region.specs.Local.{no_side}
-use Rattle.kpn_region.specs.Batch.{batch_of}
+use Rattle.kpn_region.proofs.Common.{◌<◌, false, None, length, get_or, replicate, ◌∙◌, sym, ap, subst, program_of, process_events, no_frame, same_size, no_side, batch_of}
 use Rattle.kpn_region.proofs.Batches.{IsNew, is_new}
 use Rattle.kpn_region.proofs.batch.Batch.clear.Given as given
 use Rattle.kpn_region.proofs.batch.Batch.clear.Goals as goal

@@ -1,7 +1,4 @@
-use Rattle.std.proofs.Common.{List, length, get_or, IsTrue, sym, ap, ◌∙◌, subst}
-use Rattle.kpn_net.specs.Tables.{program_of}
-use Rattle.kpn_step.specs.Frame.{Frame, fits}
-use Rattle.kpn_machine.specs.Machine.{no_frame}
+use Rattle.kpn_region.proofs.Common.{List, length, get_or, IsTrue, sym, ap, ◌∙◌, subst, program_of, Frame, fits, no_frame}
 use Rattle.kpn_region.proofs.Piecewise.{all_joined}
 use Rattle.kpn_region.proofs.batch.Batch.join.Goals as goal
 

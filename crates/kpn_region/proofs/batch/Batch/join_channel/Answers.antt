@@ -1,11 +1,5 @@
 use Rattle.std.proofs.Common.{◌≡◌, ◌<◌, ◌+◌, ◌≤◌, ◌^◌, false, List, ℤ, length, nat_lt, sym, ap, ◌∙◌, subst, length-drop, rules}
-use Rattle.std.proofs.lemmas.List.{nil_from_length}
-use Rattle.kpn_net.specs.Waits.{AreWaits}
-use Rattle.kpn_chan.specs.Channel.{unread, batch_joined}
-use Rattle.kpn_machine.specs.Machine.{channel_in}
-use Rattle.kpn_machine.specs.Woken.{AreWoken, ends_by_batch}
-use Rattle.kpn_region.specs.Local.{SideState, side_at}
-use Rattle.kpn_region.specs.Joining.{items_put, has_put_items}
+use Rattle.kpn_region.proofs.Common.{nil_from_length, AreWaits, unread, batch_joined, channel_in, AreWoken, ends_by_batch, SideState, side_at, items_put, has_put_items}
 use Rattle.kpn_region.proofs.Piecewise.{nothing_joined}
 use Rattle.kpn_region.proofs.Sides.{kept_of, put_of, handed_on, puts_some, may_join, bounded, is_joined}
 use Rattle.kpn_region.proofs.batch.Batch.join_channel.Goals as goal

@@ -1,7 +1,4 @@
-use Rattle.std.proofs.Common.{◌≡◌, ◌<◌, length, sym, ap, ◌∙◌, subst, arith}
-use Rattle.kpn_region.specs.Local.{side_at}
-use Rattle.kpn_region.specs.Joining.{ChannelAgrees}
-use Rattle.kpn_region.specs.JoiningParts.{JoinsChannels}
+use Rattle.kpn_region.proofs.Common.{◌≡◌, ◌<◌, length, sym, ap, ◌∙◌, subst, arith, side_at, ChannelAgrees, JoinsChannels}
 use Rattle.kpn_region.proofs.Piecewise.{none_joined, one_more_joined}
 use Rattle.kpn_region.proofs.batch.Batch.join_channels.Goals as goal
 

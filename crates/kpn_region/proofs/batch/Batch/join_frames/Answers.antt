@@ -1,9 +1,4 @@
-use Rattle.std.proofs.Common.{◌≡◌, ◌<◌, length, sym, ap, ◌∙◌, subst, arith}
-use Rattle.kpn_net.specs.Tables.{program_of}
-use Rattle.kpn_machine.specs.Machine.{frame_in}
-use Rattle.kpn_machine.proofs.Calls.{same_size}
-use Rattle.kpn_region.specs.Local.{frame_at}
-use Rattle.kpn_region.specs.JoiningParts.{JoinsFrames}
+use Rattle.kpn_region.proofs.Common.{◌≡◌, ◌<◌, length, sym, ap, ◌∙◌, subst, arith, program_of, frame_in, same_size, frame_at, JoinsFrames}
 use Rattle.kpn_region.proofs.Piecewise.{no_frames_joined, one_more_frame}
 use Rattle.kpn_region.proofs.batch.Batch.join_frames.Goals as goal
 

@@ -1,8 +1,4 @@
-use Rattle.std.proofs.Common.{◌<◌, ◌∙◌, sym, ap, subst}
-use Rattle.std.proofs.lemmas.List.{ext_get_or}
-use Rattle.kpn_history.specs.Talks.{process_events}
-use Rattle.kpn_machine.specs.Machine.{no_frame}
-use Rattle.kpn_region.specs.Batch.{batch_of}
+use Rattle.kpn_region.proofs.Common.{◌<◌, ◌∙◌, sym, ap, subst, ext_get_or, process_events, no_frame, batch_of}
 use Rattle.kpn_region.proofs.Batches.{IsNew, is_new}
 use Rattle.kpn_region.proofs.batch.Batch.new.Given as given
 use Rattle.kpn_region.proofs.batch.Batch.new.Goals as goal

@@ -1,6 +1,4 @@
-use Rattle.std.proofs.Common.{◌≡◌, ◌<◌, true, false, length, ap, subst, inl, inr, arith, rules}
-use Rattle.std.proofs.lemmas.Bool.{both_ways, cases_lt, false≢true}
-use Rattle.kpn_region.specs.Joining.{ProcessAgrees}
+use Rattle.kpn_region.proofs.Common.{◌≡◌, ◌<◌, true, false, length, ap, subst, inl, inr, arith, rules, both_ways, cases_lt, false≢true, ProcessAgrees}
 use Rattle.kpn_region.proofs.batch.Batch.processes_agree.Goals as goal
 
 pub process_agrees-requires-clause-process : goal.process_agrees-requires-clause-process

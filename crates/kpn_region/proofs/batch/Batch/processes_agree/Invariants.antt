@@ -1,5 +1,4 @@
-use Rattle.std.proofs.Common.{ℕ, ◌<◌}
-use Rattle.kpn_region.specs.Joining.{ProcessAgrees}
+use Rattle.kpn_region.proofs.Common.{ℕ, ◌<◌, ProcessAgrees}
 use Rattle.kpn_region.proofs.batch.Batch.processes_agree.Given as goal
 
 abbrev pub invariant-processes : goal.invariant-processes

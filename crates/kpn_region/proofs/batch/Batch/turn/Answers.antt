@@ -1,8 +1,4 @@
-use Rattle.std.proofs.Common.{◌≡◌, ◌+◌, ◌<◌, sym, ap, ◌∙◌, subst, true, false, get_or, slice_set, length, rules}
-use Rattle.std.proofs.lemmas.List.{get_or_read}
-use Rattle.kpn_history.specs.Talks.{process_events}
-use Rattle.kpn_machine.specs.Machine.{no_frame}
-use Rattle.kpn_region.specs.Batch.{IsBatch, batch_of}
+use Rattle.kpn_region.proofs.Common.{◌≡◌, ◌+◌, ◌<◌, sym, ap, ◌∙◌, subst, true, false, get_or, slice_set, length, rules, get_or_read, process_events, no_frame, IsBatch, batch_of}
 use Rattle.kpn_region.proofs.Batches.{turned, counted}
 use Rattle.kpn_region.proofs.batch.Batch.turn.Given as given
 use Rattle.kpn_region.proofs.batch.Batch.turn.Goals as goal

@@ -1,10 +1,5 @@
-use Rattle.std.proofs.Common.{◌≡◌, ◌<◌, IsTrue, ◌∙◌, ap, sym, subst, arith, length, rules, w64, SFits, to_z, of_z}
+use Rattle.kpn_region.proofs.Common.{◌≡◌, ◌<◌, IsTrue, ◌∙◌, ap, sym, subst, arith, length, rules, w64, SFits, to_z, of_z, program_of, IsInstance-of, fits, StandsAt, IsAtPort, IsGiven, StandsAtRead, IsGot, IsPutOn}
 use Rattle.std.proofs.lemmas.Int.{to_z-of_z}
-use Rattle.kpn_net.specs.Tables.{program_of}
-use Rattle.kpn_net.proofs.Networks.{IsInstance-of}
-use Rattle.kpn_step.specs.Frame.{fits}
-use Rattle.kpn_step.specs.Stops.{StandsAt, IsAtPort, IsGiven, StandsAtRead}
-use Rattle.kpn_region.specs.Turn.{IsGot, IsPutOn}
 use Rattle.kpn_region.proofs.Turns.{goes_by_get, goes_by_put}
 use Rattle.kpn_region.proofs.Numbers.{in_there, out_there, channel_fits}
 use Rattle.kpn_region.proofs.traffic.Traffic.pass.Goals as goal

@@ -1,6 +1,4 @@
-use Rattle.std.proofs.Common.{refl, ◌∙◌, subst, arith}
-use Rattle.kpn_net.specs.Tables.{program_of}
-use Rattle.kpn_step.specs.Stops.{IsAdvance, advanced_of}
+use Rattle.kpn_region.proofs.Common.{refl, ◌∙◌, subst, arith, program_of, IsAdvance, advanced_of}
 use Rattle.kpn_region.proofs.Turns.{as_many, goes_nowhere, goes_by_steps, goes_then, goes_and_stops}
 use Rattle.kpn_region.proofs.traffic.Traffic.turn.Given as given
 use Rattle.kpn_region.proofs.traffic.Traffic.turn.Goals as goal

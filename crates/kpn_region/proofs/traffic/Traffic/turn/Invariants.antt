@@ -1,5 +1,4 @@
-use Rattle.std.proofs.Common.{◌≡◌, ◌-◌, ◌≤◌, vec_capacity}
-use Rattle.kpn_region.specs.Turn.{MakesEvents}
+use Rattle.kpn_region.proofs.Common.{◌≡◌, ◌-◌, ◌≤◌, vec_capacity, MakesEvents}
 use Rattle.kpn_region.proofs.traffic.Traffic.turn.Given as goal
 
 abbrev pub invariant-events : goal.invariant-events

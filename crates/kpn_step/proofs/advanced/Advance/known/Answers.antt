@@ -1,6 +1,5 @@
 -- The frame's next statement names a port of the program.
-use Rattle.std.proofs.Common.{subst}
-use Rattle.kpn_step.specs.Stops.{Advanced, IsAtPort}
+use Rattle.kpn_step.proofs.Common.{subst, Advanced, IsAtPort}
 use Rattle.kpn_step.proofs.MayStep.{at_port}
 use Rattle.kpn_step.proofs.advanced.Advance.known.Goals as goal
 

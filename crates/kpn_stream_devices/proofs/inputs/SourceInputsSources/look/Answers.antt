@@ -1,6 +1,5 @@
 -- The input is looked at.
-use Rattle.std.proofs.Common.{◌∙◌, sym, refl, rules, ap}
-use Rattle.kpn_stream_devices.specs.SourceInputs.{at_input, input_of}
+use Rattle.kpn_stream_devices.proofs.Common.{◌∙◌, sym, refl, rules, ap, at_input, input_of}
 use Rattle.kpn_stream_devices.proofs.inputs.SourceInputsSources.look.Goals as goal
 
 pub returns-clause-looks : goal.returns-clause-looks

@@ -1,6 +1,5 @@
 -- The input answers.
-use Rattle.std.proofs.Common.{◌∙◌, sym, refl, rules, ap}
-use Rattle.kpn_stream_devices.specs.SourceInputs.{by_input, input_of}
+use Rattle.kpn_stream_devices.proofs.Common.{◌∙◌, sym, refl, rules, ap, by_input, input_of}
 use Rattle.kpn_stream_devices.proofs.inputs.SourceInputsSources.next.Goals as goal
 
 pub returns : goal.returns

@@ -1,7 +1,6 @@
 -- The input answers, or stays as it was.
 use Rattle.std.proofs.Common.{◌∙◌, ◌≡◌, sym, refl, rules, ap, subst, Some, Ok, w64, SFits}
-use Rattle.std.proofs.lemmas.Int.{to_z-of_z}
-use Rattle.kpn_stream_devices.specs.SourceInputs.{by_input, input_of, InputGives}
+use Rattle.kpn_stream_devices.proofs.Common.{to_z-of_z, by_input, input_of, InputGives}
 use Rattle.kpn_stream_devices.proofs.Devices.{unchanged}
 use Rattle.kpn_stream_devices.proofs.inputs.SourceInputsSources.next_at_hand.Goals as goal
 

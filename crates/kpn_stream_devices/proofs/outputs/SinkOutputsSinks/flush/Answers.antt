@@ -1,6 +1,5 @@
 -- The output hands on what it kept.
-use Rattle.std.proofs.Common.{◌∙◌, sym, refl, rules, ap}
-use Rattle.kpn_stream_devices.specs.SinkOutputs.{by_output, output_of}
+use Rattle.kpn_stream_devices.proofs.Common.{◌∙◌, sym, refl, rules, ap, by_output, output_of}
 use Rattle.kpn_stream_devices.proofs.outputs.SinkOutputsSinks.flush.Goals as goal
 
 pub returns : goal.returns

@@ -1,8 +1,6 @@
 -- The output takes the item.
-use Rattle.std.proofs.Common.{◌∙◌, sym, refl, rules, ap, subst, w64, SFits}
+use Rattle.kpn_stream_devices.proofs.Common.{◌∙◌, sym, refl, rules, ap, subst, w64, SFits, to_z-of_z, by_output, output_of, Takes}
 use Rattle.std.specs.Prelude.{ℤ}
-use Rattle.std.proofs.lemmas.Int.{to_z-of_z}
-use Rattle.kpn_stream_devices.specs.SinkOutputs.{by_output, output_of, Takes}
 use Rattle.kpn_stream_devices.proofs.outputs.SinkOutputsSinks.put.Goals as goal
 
 pub returns : goal.returns

@@ -1,8 +1,7 @@
 -- No sample was used yet.
 use Rattle.std.proofs.Common.{◌∙◌, Option, ap, sym}
-use Rattle.kpn_stream_devices.specs.Head.{head_at, head_of}
+use Rattle.kpn_stream_devices.proofs.Common.{head_at, head_of, Window}
 use Rattle.kpn_stream_devices.specs.declared.head.Wav.{Wav}
-use Rattle.kpn_stream_devices.specs.Window.{Window}
 use Rattle.kpn_stream_devices.proofs.window.Window.head.Goals as goal
 
 pub returns-in-None-clause-is : goal.returns-in-None-clause-is

@@ -1,10 +1,7 @@
 -- The first sample after the head, or no more bytes come.
 use Rattle.std.proofs.Common.{rules, ◌≡◌, ◌<◌, ◌≤◌, ◌⊎◌, ◌∙◌, true, drop, length, ap, sym, inl, inr, arith, subst}
 use Rattle.std.specs.Prelude.{min}
-use Rattle.std.proofs.lemmas.List.{take_rest}
-use Rattle.kpn_stream_devices.specs.Formats.{sample_width, sample_value}
-use Rattle.kpn_stream_devices.specs.Window.{Window, IsRightOfWav, end_told}
-use Rattle.kpn_stream_devices.specs.declared.window.Told.TheVariants.{Other}
+use Rattle.kpn_stream_devices.proofs.Common.{take_rest, sample_width, sample_value, Window, IsRightOfWav, end_told, Other}
 use Rattle.kpn_stream_devices.proofs.Wavs.{wav_tells, few_tell}
 use Rattle.kpn_stream_devices.proofs.window.Window.tell_behind.Goals as goal
 

@@ -1,11 +1,7 @@
 -- The bytes are the only line, or one that is too long spells no item.
 use Rattle.std.proofs.Common.{rules, ◌≡◌, ◌<◌, ◌∙◌, true, Option, None, length, ap, sym, subst}
-use Rattle.std.specs.Prelude.{MatchOption}
-use Rattle.kpn_text_items.specs.ItemLine.{SpellsItem}
-use Rattle.kpn_stream_devices.specs.declared.formats.ItemFormat.TheVariants.{Lines}
+use Rattle.kpn_stream_devices.proofs.Common.{MatchOption, SpellsItem, Lines, One, Window, SpellsNone, IsRightOf}
 use Rattle.kpn_stream_devices.specs.declared.head.Wav.{Wav}
-use Rattle.kpn_stream_devices.specs.declared.window.Told.TheVariants.{One}
-use Rattle.kpn_stream_devices.specs.Window.{Window, SpellsNone, IsRightOf}
 use Rattle.kpn_stream_devices.proofs.Telling.{whole_tells, long_tells}
 use Rattle.kpn_stream_devices.proofs.window.Window.tell_last_line.Goals as goal
 

@@ -1,12 +1,7 @@
 -- The line is the first, whatever comes.
 use Rattle.std.proofs.Common.{◌∙◌, ◌+◌, Option, take, ap, sym, subst}
-use Rattle.std.specs.Prelude.{MatchOption}
-use Rattle.std.specs.Str.Lines.{strip_carriage_return}
-use Rattle.kpn_text_items.specs.ItemLine.{SpellsItem}
-use Rattle.kpn_stream_devices.specs.declared.formats.ItemFormat.TheVariants.{Lines}
+use Rattle.kpn_stream_devices.proofs.Common.{MatchOption, strip_carriage_return, SpellsItem, Lines, One, Window, SpellsNone, IsRightOf}
 use Rattle.kpn_stream_devices.specs.declared.head.Wav.{Wav}
-use Rattle.kpn_stream_devices.specs.declared.window.Told.TheVariants.{One}
-use Rattle.kpn_stream_devices.specs.Window.{Window, SpellsNone, IsRightOf}
 use Rattle.kpn_stream_devices.proofs.Telling.{line_tells}
 use Rattle.kpn_stream_devices.proofs.window.Window.tell_line_of.Goals as goal
 

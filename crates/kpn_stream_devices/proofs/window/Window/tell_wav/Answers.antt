@@ -1,8 +1,5 @@
 -- The head is wrong, whatever follows.
-use Rattle.std.proofs.Common.{◌∙◌, Err, ap, sym, subst, length}
-use Rattle.kpn_stream.specs.declared.faults.SourceFault.TheVariants.{BadHead}
-use Rattle.kpn_stream_devices.specs.declared.window.Told.TheVariants.{Other}
-use Rattle.kpn_stream_devices.specs.Window.{Window, IsRightOfWav}
+use Rattle.kpn_stream_devices.proofs.Common.{◌∙◌, Err, ap, sym, subst, length, BadHead, Other, Window, IsRightOfWav}
 use Rattle.kpn_stream_devices.proofs.Wavs.{bad_tells, open_tells}
 use Rattle.kpn_stream_devices.proofs.window.Window.tell_wav.Goals as goal
 

@@ -1,9 +1,6 @@
 -- A call goes down to the levels that remain; what is put so far, and the statements still to come, are all
 -- statements.
-use Rattle.std.proofs.Common.{◌≡◌, ◌+◌, ◌-◌, ◌*◌, ◌++◌, List, ℕ, drop}
-use Rattle.kpn_limits.specs.declared.TheConstants.{MAX_LEVELS}
-use Rattle.kpn_lang.specs.Tree.{tree_of}
-use Rattle.kpn_lang.specs.View.{statements_of}
+use Rattle.kpn_text.proofs.Common.{◌≡◌, ◌+◌, ◌-◌, ◌*◌, ◌++◌, List, ℕ, drop, MAX_LEVELS, tree_of, statements_of}
 use Rattle.kpn_text.proofs.BlockLemmas.{block_text}
 use Rattle.kpn_text.proofs.blocks.Body.+body.Given as goal
 

@@ -1,8 +1,5 @@
 -- By the table of the instances.
-use Rattle.std.proofs.Common.{List, ℕ, sym, ap, subst, ◌∙◌}
-use Rattle.std.specs.Str.{IsUtf8}
-use Rattle.kpn_text_names.specs.Names.{name_at}
-use Rattle.kpn_text.specs.Document.{Document}
+use Rattle.kpn_text.proofs.Common.{List, ℕ, sym, ap, subst, ◌∙◌, IsUtf8, name_at, Document}
 use Rattle.kpn_text.proofs.document.Document.instance_name.Goals as goal
 
 pub name_in-requires : goal.name_in-requires

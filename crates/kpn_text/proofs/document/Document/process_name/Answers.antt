@@ -1,9 +1,5 @@
 -- By the table of the processes.
-use Rattle.std.proofs.Common.{List, map, sym, ap, subst, ◌∙◌}
-use Rattle.std.specs.Str.{IsUtf8}
-use Rattle.kpn_text_names.specs.Names.{name_at}
-use Rattle.kpn_text_names.specs.declared.network_names.ProcessNames.{ProcessNames}
-use Rattle.kpn_text.specs.Document.{Document}
+use Rattle.kpn_text.proofs.Common.{List, map, sym, ap, subst, ◌∙◌, IsUtf8, name_at, ProcessNames, Document}
 use Rattle.kpn_text.proofs.document.Document.process_name.Goals as goal
 
 pub process_name_in-requires : goal.process_name_in-requires

@@ -1,6 +1,5 @@
 -- By the table of the processes.
-use Rattle.std.proofs.Common.{List, ap, ◌∙◌}
-use Rattle.kpn_text_names.specs.declared.network_names.ProcessNames.{ProcessNames}
+use Rattle.kpn_text.proofs.Common.{List, ap, ◌∙◌, ProcessNames}
 use Rattle.kpn_text.specs.Document as spec
 use Rattle.kpn_text.proofs.document.Document.variable_name.Goals as goal
 

@@ -1,7 +1,5 @@
 -- A name adds its number, or is the first that is not known.
-use Rattle.std.proofs.Common.{◌≡◌, ◌++◌, ◌∷◌, [], Ok, refl, sym, ap, ◌∙◌, arith}
-use Rattle.std.proofs.lemmas.Result.{err_from_is_err_and}
-use Rattle.kpn_text_names.specs.Names.{with_number, known}
+use Rattle.kpn_text_names.proofs.Common.{◌≡◌, ◌++◌, ◌∷◌, [], Ok, refl, sym, ap, ◌∙◌, arith, err_from_is_err_and, with_number, known}
 use Rattle.kpn_text_names.proofs.Chains.{then_ok}
 use Rattle.kpn_text_names.proofs.Steps.{goes, fails, fails_first, ends}
 use Rattle.kpn_text_names.proofs.names.NameTable.all_known.Goals as goal

@@ -1,9 +1,5 @@
 -- An item takes the tables a step on, or is the first that is wrong.
-use Rattle.std.proofs.Common.{map, sym, ◌∙◌, arith}
-use Rattle.std.proofs.lemmas.Result.{err_from_is_err_and}
-use Rattle.kpn_text_grammar.specs.View.{item_seen}
-use Rattle.kpn_text_names.specs.Network.{all_channels, with_wired_item}
-use Rattle.kpn_text_names.specs.View.{wiring_seen}
+use Rattle.kpn_text_names.proofs.Common.{map, sym, ◌∙◌, arith, err_from_is_err_and, item_seen, all_channels, with_wired_item, wiring_seen}
 use Rattle.kpn_text_names.proofs.Steps.{goes, fails, ends}
 use Rattle.kpn_text_names.proofs.network.Wiring.read.Goals as goal
 

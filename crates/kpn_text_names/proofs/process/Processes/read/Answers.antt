@@ -1,9 +1,5 @@
 -- A process takes the tables a step on, or is the first that is wrong.
-use Rattle.std.proofs.Common.{sym, ◌∙◌, arith}
-use Rattle.std.proofs.lemmas.Result.{err_from_is_err_and}
-use Rattle.kpn_text_grammar.specs.View.{process_seen}
-use Rattle.kpn_text_names.specs.Named.{with_named_process}
-use Rattle.kpn_text_names.specs.View.{programs_seen}
+use Rattle.kpn_text_names.proofs.Common.{sym, ◌∙◌, arith, err_from_is_err_and, process_seen, with_named_process, programs_seen}
 use Rattle.kpn_text_names.proofs.Steps.{goes, fails, ends}
 use Rattle.kpn_text_names.proofs.process.Processes.read.Goals as goal
 

@@ -1,9 +1,5 @@
 -- The processes that remain, taken from here, lead to the same as all of them.
-use Rattle.std.proofs.Common.{◌≡◌, drop, map}
-use Rattle.kpn_text_grammar.specs.View.{process_seen}
-use Rattle.kpn_text_names.specs.Fault.{each}
-use Rattle.kpn_text_names.specs.Named.{with_named_process, programs_of}
-use Rattle.kpn_text_names.specs.View.{programs_seen}
+use Rattle.kpn_text_names.proofs.Common.{◌≡◌, drop, map, process_seen, each, with_named_process, programs_of, programs_seen}
 use Rattle.kpn_text_names.proofs.process.Processes.read.Given as goal
 
 abbrev pub invariant-loop-process : goal.invariant-loop-process

@@ -1,7 +1,5 @@
 -- The statements that remain, read from here, lead to the same as all of them; variables only become more.
-use Rattle.std.proofs.Common.{◌≡◌, ◌≤◌, drop, length}
-use Rattle.kpn_text_grammar.specs.View.{block_seen}
-use Rattle.kpn_text_names.specs.Targets.{with_targets}
+use Rattle.kpn_text_names.proofs.Common.{◌≡◌, ◌≤◌, drop, length, block_seen, with_targets}
 use Rattle.kpn_text_names.proofs.scope.NameScope.+targets.Given as goal
 
 abbrev pub invariant-add_targets-loop-statement : goal.invariant-add_targets-loop-statement

@@ -1,7 +1,5 @@
 -- A name takes the tables a step on, or is the first that is wrong.
-use Rattle.std.proofs.Common.{sym, ◌∙◌, arith, refl}
-use Rattle.std.proofs.lemmas.Result.{err_from_is_err_and}
-use Rattle.kpn_text_names.specs.Writer.{declared_in}
+use Rattle.kpn_text_names.proofs.Common.{sym, ◌∙◌, arith, refl, err_from_is_err_and, declared_in}
 use Rattle.kpn_text_names.proofs.Steps.{goes, fails, ends}
 use Rattle.kpn_text_names.proofs.scope.NameScope.declare_all.Goals as goal
 

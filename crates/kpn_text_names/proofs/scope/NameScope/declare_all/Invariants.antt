@@ -1,8 +1,5 @@
 -- The names that remain, taken from here, lead to the same as all of them.
-use Rattle.std.proofs.Common.{◌≡◌, drop}
-use Rattle.kpn_text_grammar.specs.View.{names_seen}
-use Rattle.kpn_text_names.specs.Fault.{each}
-use Rattle.kpn_text_names.specs.Writer.{declared_in}
+use Rattle.kpn_text_names.proofs.Common.{◌≡◌, drop, names_seen, each, declared_in}
 use Rattle.kpn_text_names.proofs.scope.NameScope.declare_all.Given as goal
 
 abbrev pub invariant-loop-name : goal.invariant-loop-name

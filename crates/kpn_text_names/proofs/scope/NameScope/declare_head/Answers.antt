@@ -1,7 +1,5 @@
 -- The head by its parts is the head.
-use Rattle.std.proofs.Common.{ap}
-use Rattle.std.proofs.lemmas.Result.{err_from_is_err_and}
-use Rattle.kpn_text_grammar.specs.View.{names_seen, process_seen}
+use Rattle.kpn_text_names.proofs.Common.{ap, err_from_is_err_and, names_seen, process_seen}
 use Rattle.kpn_text_names.proofs.Heads.{fails_at_ins, fails_at_outs, made_of}
 use Rattle.kpn_text_names.proofs.scope.NameScope.declare_head.Goals as goal
 

@@ -1,8 +1,5 @@
 -- An array or a table takes the names a step on, or its name is the first that is wrong.
-use Rattle.std.proofs.Common.{sym, ◌∙◌, arith}
-use Rattle.std.proofs.lemmas.Result.{err_from_is_err_and}
-use Rattle.kpn_text_grammar.specs.View.{declaration_seen}
-use Rattle.kpn_text_names.specs.Scope.{declare}
+use Rattle.kpn_text_names.proofs.Common.{sym, ◌∙◌, arith, err_from_is_err_and, declaration_seen, declare}
 use Rattle.kpn_text_names.proofs.Steps.{goes, fails, ends}
 use Rattle.kpn_text_names.proofs.scope.NameScope.declare_rows.Goals as goal
 

@@ -1,8 +1,5 @@
 -- The arrays and tables that remain, taken from here, lead to the same as all of them.
-use Rattle.std.proofs.Common.{◌≡◌, drop, map}
-use Rattle.kpn_text_grammar.specs.View.{declaration_seen}
-use Rattle.kpn_text_names.specs.Fault.{each}
-use Rattle.kpn_text_names.specs.Scope.{declare}
+use Rattle.kpn_text_names.proofs.Common.{◌≡◌, drop, map, declaration_seen, each, declare}
 use Rattle.kpn_text_names.proofs.scope.NameScope.declare_rows.Given as goal
 
 abbrev pub invariant-loop-declaration : goal.invariant-loop-declaration

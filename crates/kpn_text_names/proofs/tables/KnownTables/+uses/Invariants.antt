@@ -1,7 +1,5 @@
 -- The statements that remain, read from here, lead to the same as all of them.
-use Rattle.std.proofs.Common.{◌≡◌, drop}
-use Rattle.kpn_text_grammar.specs.View.{block_seen}
-use Rattle.kpn_text_names.specs.Shared.{used_in}
+use Rattle.kpn_text_names.proofs.Common.{◌≡◌, drop, block_seen, used_in}
 use Rattle.kpn_text_names.proofs.tables.KnownTables.+uses.Given as goal
 
 abbrev pub invariant-add_all_uses-loop-statement : goal.invariant-add_all_uses-loop-statement

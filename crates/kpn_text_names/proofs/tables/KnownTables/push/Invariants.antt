@@ -1,8 +1,5 @@
 -- The row is there, and the values of the literals that were passed are behind those before.
-use Rattle.std.proofs.Common.{◌≡◌, ◌++◌, length, take, map}
-use Rattle.kpn_text_grammar.specs.Syntax.{literal_value}
-use Rattle.kpn_text_grammar.specs.View.{literal_seen}
-use Rattle.kpn_text_names.specs.Rows.{with_row}
+use Rattle.kpn_text_names.proofs.Common.{◌≡◌, ◌++◌, length, take, map, literal_value, literal_seen, with_row}
 use Rattle.kpn_text_names.proofs.tables.KnownTables.push.Given as goal
 
 abbrev pub invariant-loop-literal : goal.invariant-loop-literal

@@ -1,8 +1,5 @@
 -- A table takes the tables a step on, or its name is the first that is wrong.
-use Rattle.std.proofs.Common.{sym, ◌∙◌, arith}
-use Rattle.std.proofs.lemmas.Result.{err_from_is_err_and}
-use Rattle.kpn_text_grammar.specs.View.{table_seen}
-use Rattle.kpn_text_names.specs.Shared.{with_shared}
+use Rattle.kpn_text_names.proofs.Common.{sym, ◌∙◌, arith, err_from_is_err_and, table_seen, with_shared}
 use Rattle.kpn_text_names.proofs.Steps.{goes, fails, ends}
 use Rattle.kpn_text_names.proofs.tables.SharedTables.read.Goals as goal
 

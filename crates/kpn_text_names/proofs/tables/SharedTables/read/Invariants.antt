@@ -1,8 +1,5 @@
 -- The tables that remain, taken from here, lead to the same as all of them.
-use Rattle.std.proofs.Common.{◌≡◌, drop, map}
-use Rattle.kpn_text_grammar.specs.View.{table_seen}
-use Rattle.kpn_text_names.specs.Fault.{each}
-use Rattle.kpn_text_names.specs.Shared.{with_shared, shared_of}
+use Rattle.kpn_text_names.proofs.Common.{◌≡◌, drop, map, table_seen, each, with_shared, shared_of}
 use Rattle.kpn_text_names.proofs.tables.SharedTables.read.Given as goal
 
 abbrev pub invariant-loop-table : goal.invariant-loop-table

@@ -1,10 +1,5 @@
 -- A block is opened, its statements are written, and it is closed.
-use Rattle.std.proofs.Common.{◌≡◌, ◌++◌, ◌∷◌, [], sym, ap, ◌∙◌, arith}
-use Rattle.std.proofs.lemmas.List.{map-append}
-use Rattle.std.proofs.lemmas.Result.{err_from_is_err_and}
-use Rattle.kpn_lang.specs.Syntax.{statement_of}
-use Rattle.kpn_lang.specs.View.{statements_of}
-use Rattle.kpn_text_names.specs.View.{body_written}
+use Rattle.kpn_text_names.proofs.Common.{◌≡◌, ◌++◌, ◌∷◌, [], sym, ap, ◌∙◌, arith, map-append, err_from_is_err_and, statement_of, statements_of, body_written}
 use Rattle.kpn_text_names.proofs.StatementSteps.{goes, fails, ends, block_closed}
 use Rattle.kpn_text_names.proofs.writer.Writer.+block.Goals as goal
 

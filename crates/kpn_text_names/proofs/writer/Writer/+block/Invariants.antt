@@ -1,10 +1,6 @@
 -- The statements that remain, written from here, lead to the same as all of them; blocks and variables only become
 -- more.
-use Rattle.std.proofs.Common.{◌≡◌, ◌≤◌, [], drop, length}
-use Rattle.kpn_lang.specs.View.{statements_of}
-use Rattle.kpn_text_grammar.specs.View.{block_seen}
-use Rattle.kpn_text_names.specs.Writer.{statements_at}
-use Rattle.kpn_text_names.specs.View.{body_written}
+use Rattle.kpn_text_names.proofs.Common.{◌≡◌, ◌≤◌, [], drop, length, statements_of, block_seen, statements_at, body_written}
 use Rattle.kpn_text_names.proofs.writer.Writer.+block.Given as goal
 
 abbrev pub invariant-statements-loop-statement : goal.invariant-statements-loop-statement

@@ -1,12 +1,5 @@
 -- A body is the block that is written first.
-use Rattle.std.proofs.Common.{◌≡◌, [], ap, subst, sym, ◌∙◌}
-use Rattle.std.proofs.lemmas.Result.{err_from_is_err_and}
-use Rattle.kpn_lang.specs.View.{blocks_of}
-use Rattle.kpn_text_grammar.specs.View.{block_seen}
-use Rattle.kpn_text_names.specs.Fault.{ResolvingFails}
-use Rattle.kpn_text_names.specs.Writer.{numbered_block}
-use Rattle.kpn_text_names.specs.Blocks.{WrittenBody}
-use Rattle.kpn_text_names.specs.View.{body_written}
+use Rattle.kpn_text_names.proofs.Common.{◌≡◌, [], ap, subst, sym, ◌∙◌, err_from_is_err_and, blocks_of, block_seen, ResolvingFails, numbered_block, WrittenBody, body_written}
 use Rattle.kpn_text_names.proofs.Writing.{whole_body, body_fails}
 use Rattle.kpn_text_names.proofs.writer.Writer.body.Goals as goal
 

@@ -1,6 +1,5 @@
 -- Neither the process nor the room is later than the last tick.
-use Rattle.std.proofs.Common.{arith}
-use Rattle.kpn_ticks.specs.Shown.{shown}
+use Rattle.kpn_ticks.proofs.Common.{arith, shown}
 use Rattle.kpn_ticks.proofs.Counting.{room_up_to}
 use Rattle.kpn_ticks.proofs.clocks.Clocks.put_tick.Goals as goal
 

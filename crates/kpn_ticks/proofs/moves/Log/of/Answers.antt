@@ -1,9 +1,5 @@
 -- The clocks of the course are those of the events so far, whose ticks are few.
-use Rattle.std.proofs.Common.{true, take, sym, subst, ap, ◌∙◌, arith}
-use Rattle.std.proofs.lemmas.List.{length-take}
-use Rattle.kpn_ticks.specs.Ticks.{Clocks}
-use Rattle.kpn_ticks.specs.Shown.{AreClocks}
-use Rattle.kpn_ticks.specs.Chain.{Course}
+use Rattle.kpn_ticks.proofs.Common.{true, take, sym, subst, ap, ◌∙◌, arith, length-take, Clocks, AreClocks, Course}
 use Rattle.kpn_ticks.proofs.Counting.{clocks_are, ticks_are_few}
 use Rattle.kpn_ticks.proofs.Course.{course_clocks}
 use Rattle.kpn_ticks.proofs.moves.Log.of.Goals as goal

@@ -1,6 +1,5 @@
 -- One get or put more.
-use Rattle.std.proofs.Common.{refl}
-use Rattle.kpn_ticks.specs.ChainShown.{walked}
+use Rattle.kpn_ticks.proofs.Common.{refl, walked}
 use Rattle.kpn_ticks.proofs.Course.{one_past}
 use Rattle.kpn_ticks.proofs.walk.Walker.walk_back.Goals as goal
 

@@ -1,7 +1,5 @@
 -- The walk is along the last moves, and no share is larger than their number.
-use Rattle.std.proofs.Common.{◌≡◌, ◌-◌, ◌≤◌, ℕ, drop, length, get_or}
-use Rattle.kpn_ticks.specs.Chain.{walk_back}
-use Rattle.kpn_ticks.specs.ChainShown.{walked}
+use Rattle.kpn_ticks.proofs.Common.{◌≡◌, ◌-◌, ◌≤◌, ℕ, drop, length, get_or, walk_back, walked}
 use Rattle.kpn_ticks.proofs.walk.Walker.walk_back.Given as goal
 
 abbrev pub invariant-loop-i : goal.invariant-loop-i

@@ -1,7 +1,5 @@
 -- The blocks are in order if the count from the body on comes to their number.
-use Rattle.std.proofs.Common.{◌≡◌, sym, ◌∙◌, ap, length}
-use Rattle.std.proofs.lemmas.List.{length-map}
-use Rattle.kpn_lang.specs.View.{parts_of, blocks_of}
+use Rattle.kpn_lang.proofs.Common.{◌≡◌, sym, ◌∙◌, ap, length, length-map, parts_of, blocks_of}
 use Rattle.kpn_lang.proofs.Rules.{ends_at, order_read}
 use Rattle.kpn_lang.proofs.program.parts.Parts.is_in_order.Goals as goal
 

@@ -1,15 +1,5 @@
 -- The chain's answer is that of the statements that the code holds, block after block.
-use Rattle.std.proofs.Common.{◌≡◌, ◌∙◌, ap, ◌||◌, false, sym, rules, tests, arith, length}
-use Rattle.std.specs.Prelude.{nat_lt}
-use Rattle.std.specs.List.{list_any}
-use Rattle.std.proofs.lemmas.Bool.Decides.{nat_tests}
-use Rattle.std.proofs.lemmas.List.{length-map}
-use Rattle.std.proofs.lemmas.Iterator.{YieldsList-from_slice}
-use Rattle.std.proofs.lemmas.Iterator.Adapters.{YieldsList-from_flatten}
-use Rattle.std.proofs.lemmas.Iterator.Search.{any_from_yields_List}
-use Rattle.kpn_lang.specs.Syntax.{statement_of}
-use Rattle.kpn_lang.specs.View.{blocks_of}
-use Rattle.kpn_lang.specs.Parts.{names_from}
+use Rattle.kpn_lang.proofs.Common.{◌≡◌, ◌∙◌, ap, ◌||◌, false, sym, rules, tests, arith, length, nat_lt, list_any, nat_tests, length-map, YieldsList-from_slice, YieldsList-from_flatten, any_from_yields_List, statement_of, blocks_of, names_from}
 use Rattle.kpn_lang.proofs.Rules.{any_statement}
 use Rattle.kpn_lang.proofs.program.parts.Parts.lacks_a_block.Goals as goal
 

@@ -1,10 +1,5 @@
 -- The chain's answer is that of the statements that the code holds, block after block.
-use Rattle.std.proofs.Common.{◌∙◌, rules, tests}
-use Rattle.std.proofs.lemmas.Iterator.{YieldsList-from_slice}
-use Rattle.std.proofs.lemmas.Iterator.Adapters.{YieldsList-from_flatten}
-use Rattle.std.proofs.lemmas.Iterator.Search.{all_from_yields_List}
-use Rattle.kpn_lang.specs.Syntax.{statement_of}
-use Rattle.kpn_lang.specs.Parts.{names_ports_below}
+use Rattle.kpn_lang.proofs.Common.{◌∙◌, rules, tests, YieldsList-from_slice, YieldsList-from_flatten, all_from_yields_List, statement_of, names_ports_below}
 use Rattle.kpn_lang.proofs.Rules.{all_statements}
 use Rattle.kpn_lang.proofs.program.parts.Parts.names_its_ports.Goals as goal
 

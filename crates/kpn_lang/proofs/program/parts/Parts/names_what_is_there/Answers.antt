@@ -1,11 +1,5 @@
 -- The chain's answer is that of the statements that the code holds, block after block.
-use Rattle.std.proofs.Common.{◌≡◌, ◌+◌, ◌∙◌, ap, length, rules, tests, arith}
-use Rattle.std.proofs.lemmas.Iterator.{YieldsList-from_slice}
-use Rattle.std.proofs.lemmas.Iterator.Adapters.{YieldsList-from_flatten}
-use Rattle.std.proofs.lemmas.Iterator.Search.{all_from_yields_List}
-use Rattle.kpn_lang.specs.Syntax.{statement_of}
-use Rattle.kpn_lang.specs.Parts.{each_statement, names_there}
-use Rattle.kpn_lang.specs.View.{parts_of, blocks_of}
+use Rattle.kpn_lang.proofs.Common.{◌≡◌, ◌+◌, ◌∙◌, ap, length, rules, tests, arith, YieldsList-from_slice, YieldsList-from_flatten, all_from_yields_List, statement_of, each_statement, names_there, parts_of, blocks_of}
 use Rattle.kpn_lang.proofs.Programs.{limits_kept}
 use Rattle.kpn_lang.proofs.Rules.{all_statements}
 use Rattle.kpn_lang.proofs.program.parts.Parts.names_what_is_there.Goals as goal

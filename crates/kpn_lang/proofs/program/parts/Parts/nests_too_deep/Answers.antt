@@ -1,14 +1,6 @@
 -- The chain's answer is that of the statements that the code holds, block after block.
-use Rattle.std.proofs.Common.{◌∙◌, sym, ap, not, rules, tests, Bool}
+use Rattle.kpn_lang.proofs.Common.{◌∙◌, sym, ap, not, rules, tests, Bool, list_all, YieldsList-from_slice, YieldsList-from_flatten, all_from_yields_List, MAX_LEVELS, Statement, statement_of, depth, expressions, each_statement, is_within, blocks_of}
 use Rattle.std.specs.Prelude.{nat_le}
-use Rattle.std.specs.List.{list_all}
-use Rattle.std.proofs.lemmas.Iterator.{YieldsList-from_slice}
-use Rattle.std.proofs.lemmas.Iterator.Adapters.{YieldsList-from_flatten}
-use Rattle.std.proofs.lemmas.Iterator.Search.{all_from_yields_List}
-use Rattle.kpn_limits.specs.declared.TheConstants.{MAX_LEVELS}
-use Rattle.kpn_lang.specs.Syntax.{Statement, statement_of}
-use Rattle.kpn_lang.specs.Parts.{depth, expressions, each_statement, is_within}
-use Rattle.kpn_lang.specs.View.{blocks_of}
 use Rattle.kpn_lang.proofs.Rules.{all_statements, too_deep}
 use Rattle.kpn_lang.proofs.program.parts.Parts.nests_too_deep.Goals as goal
 

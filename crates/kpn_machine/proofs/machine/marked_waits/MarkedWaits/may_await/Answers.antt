@@ -1,7 +1,5 @@
-use Rattle.std.proofs.Common.{◌≡◌, ℕ, false, rules, sym, subst}
+use Rattle.kpn_machine.proofs.Common.{◌≡◌, ℕ, false, rules, sym, subst, WaitsFor, is_marked}
 use Rattle.std.specs.List.{Contains}
-use Rattle.kpn_net.specs.Waits.{WaitsFor}
-use Rattle.kpn_machine.specs.Marks.{is_marked}
 use Rattle.kpn_machine.proofs.Marking.{no_waiter}
 use Rattle.kpn_machine.proofs.machine.marked_waits.MarkedWaits.may_await.Goals as goal
 

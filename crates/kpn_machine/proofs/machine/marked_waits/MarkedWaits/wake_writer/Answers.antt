@@ -1,9 +1,5 @@
-use Rattle.std.proofs.Common.{◌≡◌, false, rules, sym, ap, ◌∙◌, subst}
+use Rattle.kpn_machine.proofs.Common.{◌≡◌, false, rules, sym, ap, ◌∙◌, subst, writer_of, AreWaits, is_marked, is_wait, waiting_at, free_now}
 use Rattle.kpn_net.specs.declared.wait.Wait.TheVariants.{Full}
-use Rattle.kpn_net.specs.Tables.{writer_of}
-use Rattle.kpn_net.specs.Waits.{AreWaits}
-use Rattle.kpn_machine.specs.Marks.{is_marked}
-use Rattle.kpn_machine.specs.Woken.{is_wait, waiting_at, free_now}
 use Rattle.kpn_machine.proofs.Marking.{no_writer, unmarked_full}
 use Rattle.kpn_machine.proofs.Woken.{below, woken_same, told_same}
 use Rattle.kpn_machine.proofs.machine.marked_waits.MarkedWaits.wake_writer.Goals as goal

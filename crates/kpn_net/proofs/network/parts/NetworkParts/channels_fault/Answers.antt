@@ -1,5 +1,4 @@
-use Rattle.std.proofs.Common.{rules}
-use Rattle.kpn_net.specs.View.{tables_of}
+use Rattle.kpn_net.proofs.Common.{rules, tables_of}
 use Rattle.kpn_net.proofs.SideLemmas.{from_sides}
 use Rattle.kpn_net.proofs.network.parts.NetworkParts.channels_fault.Goals as goal
 

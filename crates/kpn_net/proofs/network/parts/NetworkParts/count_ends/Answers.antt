@@ -1,7 +1,4 @@
-use Rattle.std.proofs.Common.{subst}
-use Rattle.kpn_net.specs.Tables.{Tables, writers_of, readers_of}
-use Rattle.kpn_net.specs.Sides.{Keeps}
-use Rattle.kpn_net.specs.View.{tables_of}
+use Rattle.kpn_net.proofs.Common.{subst, Tables, writers_of, readers_of, Keeps, tables_of}
 use Rattle.kpn_net.proofs.SideLemmas.{Keeps-same, first_instances, all_instances, writers_of-more, readers_of-more}
 use Rattle.kpn_net.proofs.Networks.{HasChannels, HasChannels-at}
 use Rattle.kpn_net.proofs.network.parts.NetworkParts.count_ends.Goals as goal

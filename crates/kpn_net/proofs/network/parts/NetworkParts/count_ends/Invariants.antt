@@ -1,6 +1,4 @@
-use Rattle.kpn_net.specs.View.{tables_of}
-use Rattle.kpn_net.specs.Tables.{writers_of, readers_of}
-use Rattle.kpn_net.specs.Sides.{Keeps}
+use Rattle.kpn_net.proofs.Common.{tables_of, writers_of, readers_of, Keeps}
 use Rattle.kpn_net.proofs.SideLemmas.{first_instances}
 use Rattle.kpn_net.proofs.network.parts.NetworkParts.count_ends.Given as goal
 

@@ -1,8 +1,5 @@
-use Rattle.std.proofs.Common.{◌≡◌, cond, [], ◌∷◌, ap}
+use Rattle.kpn_net.proofs.Common.{◌≡◌, cond, [], ◌∷◌, ap, Source, Sink, channel_at, is_source, is_sink, tables_of}
 use Rattle.kpn_net.specs.declared.tables.ChannelSpec.TheVariants as channel
-use Rattle.kpn_net.specs.declared.tables.End.TheVariants.{Source, Sink}
-use Rattle.kpn_net.specs.Tables.{channel_at, is_source, is_sink}
-use Rattle.kpn_net.specs.View.{tables_of}
 use Rattle.kpn_net.proofs.SideLemmas.{Keeps-outside_none, Keeps-outside_one}
 use Rattle.kpn_net.proofs.network.parts.NetworkParts.join_outside.Goals.{in-Inner, in-Source, in-Sink}
 use Rattle.kpn_net.proofs.network.parts.NetworkParts.join_outside.Goals as goal

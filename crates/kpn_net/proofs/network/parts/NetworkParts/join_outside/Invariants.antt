@@ -1,5 +1,4 @@
-use Rattle.kpn_net.specs.View.{tables_of}
-use Rattle.kpn_net.specs.Sides.{Keeps}
+use Rattle.kpn_net.proofs.Common.{tables_of, Keeps}
 use Rattle.kpn_net.proofs.SideLemmas.{outside_writers, outside_readers}
 use Rattle.kpn_net.proofs.network.parts.NetworkParts.join_outside.Given as goal
 

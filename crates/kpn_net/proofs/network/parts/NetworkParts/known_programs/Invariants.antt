@@ -1,5 +1,4 @@
-use Rattle.std.proofs.Common.{ℕ, ◌<◌, get_or}
-use Rattle.kpn_lang.specs.Parts.{Parts, IsProgram}
+use Rattle.kpn_net.proofs.Common.{ℕ, ◌<◌, get_or, Parts, IsProgram}
 use Rattle.kpn_net.proofs.network.parts.NetworkParts.known_programs.Given as goal
 
 abbrev pub invariant-loop-program : goal.invariant-loop-program
