@@ -15,11 +15,7 @@ use Rattle.kpn_command_base.specs.declared.refusal.Refusal.{Refusal}
 use Rattle.kpn_command_base.specs.declared.refusal.Refusal.TheVariants as refusal
 use Rattle.kpn_shelf.specs.Shelf.{Loads}
 use Rattle.kpn_command_base.specs.Description.{IsDescribed}
-use Rattle.kpn_command_base.specs.declared.auditing.Finding.{Finding}
-use Rattle.kpn_command_base.specs.declared.auditing.Finding.TheVariants.{NotLegal}
-use Rattle.kpn_command_base.specs.declared.flaw.Flaw.{Flaw}
-use Rattle.kpn_command_base.specs.declared.flaw.Flaw.TheVariants as of_trace
-use Rattle.kpn_command_base.specs.Audited.{IsFinding, IsFlaw, IsNoFinding}
+use Rattle.kpn_command_base.specs.Audited.{IsNoFinding}
 use Rattle.kpn_command_explain.specs.TraceAnswers.{ExplainsEvent, IsConclusion, IsNoExplanation, IsRefusalOfExplaining, illegal}
 
 -- ---- conclusions
@@ -30,14 +26,6 @@ pub event_there : (t : Tables) (trace : Trace Global) (steps k : ℕ) → IsRefu
 event_there t trace steps k is =
     let below = is.1.0.there in
     let same = history_of-length trace.version (tables_for t trace) trace.events in omega (arith, below, same)
-
--- an audit has found an event that is not legal
-pub is_illegal : (t own : Tables) (trace : Trace Global) (steps : ℕ) (found : Finding) (flaw : Flaw) (k : ℕ) → own ≡ t
-    → IsFinding own trace steps found → found ≡ NotLegal flaw → flaw ≡ of_trace.Illegal k
-    → IsRefusal t trace steps (Illegal k)
-is_illegal t own trace steps found flaw k same finds is at =
-    subst (IsFlaw t trace steps) at
-    (subst (IsFinding t trace steps) is (subst (λ (n : Tables). IsFinding n trace steps found) same finds))
 
 module _ (d : Document) (own : Tables) (same : own ≡ d.tables) (name bytes : List ℕ) (trace : Trace Global)
     (steps : ℕ) (text : List ℕ) where
