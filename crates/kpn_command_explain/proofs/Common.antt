@@ -3,7 +3,6 @@ pub use Rattle.std.proofs.Common.{Bool, List, Ok, [], ap, arith, codes, drop, fo
 pub use Rattle.std.proofs.lemmas.Result.{IfErr-weaker, IfOk-weaker}
 pub use Rattle.kpn_net.specs.Tables.{Tables}
 pub use Rattle.kpn_command_base.specs.Audited.{IsFinding, IsFlaw, IsNoFinding}
-pub use Rattle.kpn_command_base.specs.declared.flaw.Flaw.{Flaw}
 pub use Rattle.kpn_command_base.specs.declared.refusal.Refusal.{Refusal}
 pub use Rattle.kpn_deadlock.specs.Told.{AreRings, are_some}
 pub use Rattle.kpn_shelf.specs.Shelf.{Loads}

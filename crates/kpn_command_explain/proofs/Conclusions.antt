@@ -1,5 +1,5 @@
 -- What is found of the bytes of a trace, as what is explained of them.
-use Rattle.kpn_command_explain.proofs.Common.{◌≡◌, ℕ, ◌<◌, List, length, Ok, refl, subst, arith, Tables, Document, Refusal, Loads, Flaw, IsFinding, IsFlaw, IsNoFinding}
+use Rattle.kpn_command_explain.proofs.Common.{◌≡◌, ℕ, ◌<◌, List, length, Ok, refl, subst, arith, Tables, Document, Refusal, Loads, IsNoFinding}
 use Rattle.std.specs.declared.alloc.Global.{Global}
 use Rattle.kpn_history.specs.declared.stored.Trace.{Trace}
 use Rattle.kpn_trace.specs.TraceText.{SpellsTrace}
@@ -11,9 +11,6 @@ use Rattle.kpn_audit.specs.Stored.{tables_for}
 use Rattle.kpn_audit.proofs.Telling.{history_of-length}
 use Rattle.kpn_command_base.specs.declared.refusal.Refusal.TheVariants as refusal
 use Rattle.kpn_command_base.specs.Description.{IsDescribed}
-use Rattle.kpn_command_base.specs.declared.auditing.Finding.{Finding}
-use Rattle.kpn_command_base.specs.declared.auditing.Finding.TheVariants.{NotLegal}
-use Rattle.kpn_command_base.specs.declared.flaw.Flaw.TheVariants as of_trace
 use Rattle.kpn_command_explain.specs.TraceAnswers.{ExplainsEvent, IsConclusion, IsNoExplanation, IsRefusalOfExplaining, illegal}
 
 -- ---- conclusions
@@ -24,14 +21,6 @@ pub event_there : (t : Tables) (trace : Trace Global) (steps k : ℕ) → IsRefu
 event_there t trace steps k is =
     let below = is.1.0.there in
     let same = history_of-length trace.version (tables_for t trace) trace.events in omega (arith, below, same)
-
--- an audit has found an event that is not legal
-pub is_illegal : (t own : Tables) (trace : Trace Global) (steps : ℕ) (found : Finding) (flaw : Flaw) (k : ℕ) → own ≡ t
-    → IsFinding own trace steps found → found ≡ NotLegal flaw → flaw ≡ of_trace.Illegal k
-    → IsRefusal t trace steps (Illegal k)
-is_illegal t own trace steps found flaw k same finds is at =
-    subst (IsFlaw t trace steps) at
-    (subst (IsFinding t trace steps) is (subst (λ (n : Tables). IsFinding n trace steps found) same finds))
 
 module _ (d : Document) (own : Tables) (same : own ≡ d.tables) (name bytes : List ℕ) (trace : Trace Global)
     (steps : ℕ) (text : List ℕ) where

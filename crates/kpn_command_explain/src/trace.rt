@@ -1,12 +1,14 @@
 //! The command reads a network and a trace, and explains what an audit of the trace finds.
-ghost use Rattle.std.specs.Prelude.{◌≡◌, ◌≢◌, ◌⊎◌, IfOk, IfErr};
+ghost use Rattle.std.specs.Prelude.{◌≡◌, ◌≢◌, ◌⊎◌, ◌<◌, ℕ, length, IfOk, IfErr};
 ghost use Rattle.kpn_command_base.specs.Conclusion.{TellsOnly};
+ghost use Rattle.kpn_audit.specs.declared.findings.AuditFault.TheVariants.{Illegal};
+ghost use Rattle.kpn_audit.specs.Audit.{IsRefusal};
 ghost use Rattle.kpn_command_base.specs.Audited.{IsNoFinding};
 ghost use Rattle.kpn_command_base.specs.Refusal.{status_of};
 ghost use Rattle.kpn_command_explain.specs.TraceAnswers.{ExplainsFault, IsConclusion, IsExplained, IsExplanation};
 ghost use Rattle.kpn_command_explain.specs.TraceAnswers.{IsNoExplanation, IsRefusalOfExplaining};
 
-use crate::trace_text::{illegal_text, legal_text, refused_text, sentence};
+use crate::trace_text::{illegal_text, legal_text, refused_text};
 use kpn_audit::scene_before;
 use kpn_command_base::{Conclusion, Finding, Flaw, Refusal, audit_trace, load_document};
 use kpn_history::Trace;
@@ -94,19 +96,34 @@ fn conclusion(
             files: Vec::new(alloc),
         }),
         Finding::NotLegal(flaw) => match flaw {
-            Flaw::Illegal(k) => {
-                let Ok(scene) = scene_before(alloc, document.network(), trace, k, steps) else {
-                    return Err(Refusal::NoMemoryToAudit);
-                };
-                let said = sentence(alloc, document, trace, k, scene)?;
-                let text = illegal_text(alloc, name.as_bytes(), bytes, trace, k, said)?;
-                Ok(Conclusion {
-                    text,
-                    status: 1,
-                    files: Vec::new(alloc),
-                })
-            }
+            Flaw::Illegal(k) => illegal(alloc, document, name, bytes, trace, k, steps),
             Flaw::Budget(_) => Ok(flaw.conclusion(alloc)?),
         },
     }
+}
+
+// What is explained of event `k`, which is not legal.
+fn illegal(
+    alloc: Global,
+    document: &Document,
+    name: &str,
+    bytes: &[u8],
+    trace: &Trace,
+    k: usize,
+    steps: u64,
+) -> Result<Conclusion, Refusal>
+    requires { IsRefusal document.now.tables trace.now steps (Illegal k) }
+    ensures ok { IfOk result
+        (TellsOnly (IsConclusion document.now name.now bytes.now trace.now steps)) }
+    ensures refused { IfErr result (IsNoFinding document.now.tables trace.now) }
+{
+    let Ok(scene) = scene_before(alloc, document.network(), trace, k, steps) else {
+        return Err(Refusal::NoMemoryToAudit);
+    };
+    let text = illegal_text(alloc, document, name.as_bytes(), bytes, trace, k, scene)?;
+    Ok(Conclusion {
+        text,
+        status: 1,
+        files: Vec::new(alloc),
+    })
 }

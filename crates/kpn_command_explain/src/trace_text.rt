@@ -12,7 +12,7 @@ use crate::lines::line_start;
 use crate::not_exact::push_not_exact;
 use crate::trace_words::{push_event, push_scene};
 use kpn_audit::{Audit, Scene};
-use kpn_history::{Trace, Version};
+use kpn_history::{Event, Trace, Version};
 use kpn_text::Document;
 use kpn_trace::TraceFault;
 use std::alloc::{AllocError, Global};
@@ -101,19 +101,22 @@ fn rest_of_refused(
     Ok(text)
 }
 
-/// What is wrong with event `k` of a trace: where, what is said of it, the line and a caret, and some advice.
+/// What is wrong with event `k` of a trace: where, what, the line and a caret, and some advice.
 pub(crate) fn illegal_text(
     alloc: Global,
+    document: &Document,
     name: &[u8],
     bytes: &[u8],
     trace: &Trace,
     k: usize,
-    said: String,
+    scene: Scene,
 ) -> Result<Vec<u8>, AllocError>
     requires { k < length trace.now.events }
     ensures { IfOk result (λ text. spec.ExplainsEvent name.now bytes.now trace.now k text.items) }
 {
+    let event = trace.events.as_slice()[k];
     let at = line_start(bytes, k + head_lines(trace.version) + 1);
+    let said = sentence(alloc, document, trace.version, k, event, scene)?;
     let rest = with_line(said, bytes, at)?;
     let mut text = Vec::new(alloc);
     push_where(&mut text, name, bytes, at)?;
@@ -131,23 +134,17 @@ fn with_line(said: String, bytes: &[u8], at: usize) -> Result<Vec<u8>, AllocErro
     Ok(text)
 }
 
-/// `event K: EVENT; but SCENE`, and what the audit says.
-pub(crate) fn sentence(
+// `event K: EVENT; but SCENE`, and what the audit says.
+fn sentence(
     alloc: Global,
     document: &Document,
-    trace: &Trace,
+    version: Version,
     k: usize,
+    event: Event,
     scene: Scene,
-) -> Result<String, AllocError>
-    requires { k < length trace.now.events }
-{
+) -> Result<String, AllocError> {
     let mut said = format!(in alloc; "event {k}: ")?;
-    push_event(
-        &mut said,
-        document,
-        trace.version,
-        trace.events.as_slice()[k],
-    )?;
+    push_event(&mut said, document, version, event)?;
     said.push_str("; but ")?;
     push_scene(&mut said, document, scene)?;
     write!(said, " [illegal at {k}]\n")?;

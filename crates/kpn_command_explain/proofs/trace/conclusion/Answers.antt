@@ -1,7 +1,7 @@
 -- Each finding has its text under its status.
-use Rattle.kpn_command_explain.proofs.Common.{refl, subst, Tables, Flaw, IsFinding, IsFlaw, ExplainsEvent, legal, budget}
+use Rattle.kpn_command_explain.proofs.Common.{refl, subst, Tables, IsFinding, IsFlaw, legal, budget}
+use Rattle.kpn_command_base.specs.declared.flaw.Flaw.{Flaw}
 use Rattle.kpn_command_base.specs.Flaw.{IsFlawTold}
-use Rattle.kpn_command_explain.proofs.Conclusions.{concludes_illegal, event_there, is_illegal}
 use Rattle.kpn_command_explain.proofs.trace.conclusion.Goals as goal
 
 pub returns-in_ok-legal_text-in-Legal-clause-ok : goal.returns-in_ok-legal_text-in-Legal-clause-ok
@@ -16,42 +16,15 @@ returns-in_ok-legal_text-in-Legal-clause-ok c =
       c.new.ensures.items,
     )
 
-pub scene_before-requires : goal.scene_before-requires
-scene_before-requires c =
+pub illegal-requires : goal.illegal-requires
+illegal-requires c =
     let t = c.args.document.now.tables in
-    event_there t c.args.trace.now c.args.steps c.in-Illegal.k
-    (is_illegal t c.network.result.now c.args.trace.now c.args.steps c.in_ok-finding.finding c.in-NotLegal.flaw
-    c.in-Illegal.k c.network.ensures c.in_ok-finding.ensures.found c.in-NotLegal.is c.in-Illegal.is)
-
-pub sentence-requires : goal.sentence-requires
-sentence-requires c =
-    let t = c.args.document.now.tables in
-    event_there t c.args.trace.now c.args.steps c.in-Illegal.k
-    (is_illegal t c.network.result.now c.args.trace.now c.args.steps c.in_ok-finding.finding c.in-NotLegal.flaw
-    c.in-Illegal.k c.network.ensures c.in_ok-finding.ensures.found c.in-NotLegal.is c.in-Illegal.is)
-
-pub illegal_text-requires : goal.illegal_text-requires
-illegal_text-requires c =
-    let t = c.args.document.now.tables in
-    event_there t c.args.trace.now c.args.steps c.in-Illegal.k
-    (is_illegal t c.network.result.now c.args.trace.now c.args.steps c.in_ok-finding.finding c.in-NotLegal.flaw
-    c.in-Illegal.k c.network.ensures c.in_ok-finding.ensures.found c.in-NotLegal.is c.in-Illegal.is)
-
-pub returns-in_ok-text-in-Illegal-clause-ok : goal.returns-in_ok-text-in-Illegal-clause-ok
-returns-in_ok-text-in-Illegal-clause-ok c =
-    let d = c.args.document.now in
-    let is =
-    is_illegal d.tables c.network.result.now c.args.trace.now c.args.steps c.in_ok-finding.finding c.in-NotLegal.flaw
-    c.in-Illegal.k c.network.ensures c.in_ok-finding.ensures.found c.in-NotLegal.is c.in-Illegal.is in (
-      concludes_illegal d c.network-in-Illegal.result.now c.network-in-Illegal.ensures c.args.name.now c.args.bytes.now
-          c.args.trace.now c.args.steps c.in_ok-text-in-Illegal.text.items c.in-Illegal.k is c.in-Ok.scene
-          c.in-Ok.ensures.scene
-          (subst
-          (λ name. ExplainsEvent name c.args.bytes.now c.args.trace.now c.in-Illegal.k
-          c.in_ok-text-in-Illegal.text.items)
-          c.as_bytes.ensures.value c.in_ok-text-in-Illegal.ensures),
-      c.new-in-Illegal.ensures.items,
-    )
+    let trace = c.args.trace.now in
+    let found =
+    subst (λ (n : Tables). IsFinding n trace c.args.steps c.in_ok-finding.finding) c.network.ensures
+    c.in_ok-finding.ensures.found in
+    subst (IsFlaw t trace c.args.steps) c.in-Illegal.is
+    (subst (IsFinding t trace c.args.steps) c.in-NotLegal.is found)
 
 pub returns-in_ok-conclusion-in-Budget-clause-ok : goal.returns-in_ok-conclusion-in-Budget-clause-ok
 returns-in_ok-conclusion-in-Budget-clause-ok c =
