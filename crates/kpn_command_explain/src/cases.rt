@@ -40,7 +40,7 @@ pub(crate) fn case_of<'a>(
         TextFault::Program(_, ProgramFault::TooDeep) => Ok(Case::DeepProgram),
         TextFault::Program(_, ProgramFault::NoMemory) => Ok(Case::NoMemory),
         TextFault::Program(..) => Ok(Case::BrokenProgram),
-        TextFault::Net(broken) => net_case(alloc, tokens, name_at(text, places.first), broken),
+        TextFault::Net(broken) => net_case(alloc, text, tokens, name_at(text, places.first), broken),
         TextFault::NoMemory => Ok(Case::NoMemory),
     }
 }
@@ -154,12 +154,13 @@ fn target_case(text: &[u8], tokens: &[Lexeme<'_>], at: usize) -> Case {
 
 fn net_case(
     alloc: Global,
+    text: &[u8],
     tokens: &[Lexeme<'_>],
     name: &[u8],
     fault: NetFault,
 ) -> Result<Case, AllocError> {
     Ok(match fault {
-        NetFault::TooMany => Case::LargeNetwork(network_excess(alloc, tokens)?),
+        NetFault::TooMany => Case::LargeNetwork(network_excess(alloc, text, tokens)?),
         NetFault::NoSuchProgram(_) | NetFault::NoSuchChannel(_) => Case::BrokenNetwork,
         NetFault::PortCount(_) => Case::PortCount,
         NetFault::NoWriter(_) => Case::NoWriter,

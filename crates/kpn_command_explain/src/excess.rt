@@ -4,7 +4,8 @@ use crate::counts::{count_of, nodes_of};
 use crate::sentences::{Excess, LimitedPart};
 use crate::spots::TokenSpot;
 use kpn_command_base::push_number;
-use kpn_limits::{MAX_CELLS, MAX_CHANNELS, MAX_NODES, MAX_PORTS, MAX_PROCESSES, MAX_VARIABLES};
+use kpn_limits::{MAX_CELLS, MAX_NODES, MAX_PORTS, MAX_PROCESSES, MAX_VARIABLES};
+use kpn_text::network_size;
 use kpn_text_grammar::{GrammarFault, description};
 use kpn_text_names::{NameFault, NameScope, resolve};
 use kpn_text_tokens::{Lexeme, language_of};
@@ -90,17 +91,22 @@ fn cells_of(scope: &NameScope<'_>) -> usize {
     of_arrays.saturating_add(scope.tables.rows.end)
 }
 
-/// Which limit the network passes: that of processes, of instances, or else of channels.
-pub(crate) fn network_excess(alloc: Global, tokens: &[Lexeme<'_>]) -> Result<Excess, AllocError> {
+/// Which limit the network of this text passes: that of processes, of instances, or else of channels.
+pub(crate) fn network_excess(
+    alloc: Global,
+    text: &[u8],
+    tokens: &[Lexeme<'_>],
+) -> Result<Excess, AllocError> {
+    let size = network_size(language_of(text));
     let processes = count_of(alloc, tokens, TokenSpot::Process)?;
     let instances = count_of(alloc, tokens, TokenSpot::Instance)?;
     let channels = count_of(alloc, tokens, TokenSpot::Channel)?;
     if processes > MAX_PROCESSES {
         Ok(excess(LimitedPart::Processes, processes, MAX_PROCESSES))
-    } else if instances > MAX_PROCESSES {
-        Ok(excess(LimitedPart::Instances, instances, MAX_PROCESSES))
+    } else if instances > size.processes() {
+        Ok(excess(LimitedPart::Instances, instances, size.processes()))
     } else {
-        Ok(excess(LimitedPart::Channels, channels, MAX_CHANNELS))
+        Ok(excess(LimitedPart::Channels, channels, size.channels()))
     }
 }
 

@@ -222,14 +222,14 @@ pub(crate) fn advice(case: Case) -> &'static [u8] {
         Case::DoubleInstance => b"Give one of the two another name.",
         Case::DoubleChannel => b"Give one of the two another name.",
         Case::LargeProgram(excess) if matches!(excess.part, LimitedPart::Cells) =>
-            b"At most 4096 cells: those of its arrays and tables, and of each shared table that it names.",
+            b"At most 65536 cells: those of its arrays and tables, and of each shared table that it names.",
         Case::LargeProgram(_) =>
             b"At most 16 in ports, 16 out ports, 64 variables, 4096 statements and operands.",
         Case::DeepProgram =>
             b"Set a variable to a part of the expression first, or nest fewer blocks.",
         Case::BrokenProgram => b"Read the process again from its head on.",
         Case::LargeNetwork(_) =>
-            b"There are at most 256 processes, 256 instances and 1024 channels.",
+            b"There are at most 256 processes, and 256 instances and 1024 channels; in language 2 4096 and 16384.",
         Case::PortCount =>
             b"Name a channel for each port, in order, and a value for each parameter.",
         Case::NoWriter => b"Give it to an instance as an out port, or declare it as a `source`.",

@@ -39,7 +39,7 @@ module _ (d : Document) (t : Tables) (first last : ℕ) (waits : List Wait) (eve
 -- a network has few processes
 pub few_rows : (t : Tables) → IsNetwork t → (processes : ℕ) → processes ≡ length t.instances → processes < 2 ^ 16
 few_rows t network processes is =
-    let few : length t.instances ≤ 256 = (sizes t network).instances in
+    let few : length t.instances ≤ 4096 = (sizes t network).instances in
     omega (arith, few, is)
 
 -- a refusal of an audit is one of the picture

@@ -6,7 +6,7 @@
 pub const MAX_VARIABLES: usize = 64;
 
 /// The most cells that a process may have: those of its arrays and of its tables.
-pub const MAX_CELLS: usize = 4_096;
+pub const MAX_CELLS: usize = 65_536;
 
 /// The most in ports that a process may have, and the most out ports.
 pub const MAX_PORTS: usize = 16;
@@ -17,11 +17,17 @@ pub const MAX_LEVELS: usize = 32;
 /// The most nodes that a program may have: each statement is one, and each node of an expression.
 pub const MAX_NODES: usize = 4_096;
 
-/// The most programs that a network may have, and the most processes, which are instances of them.
+/// The most programs that a network may have, and the most processes, which are instances of them, of language 1.
 pub const MAX_PROCESSES: usize = 256;
 
-/// The most channels that a network may have.
+/// The most channels that a network of language 1 may have.
 pub const MAX_CHANNELS: usize = 1_024;
+
+/// The most processes that a network of language 2 may have.
+pub const MAX_LARGE_PROCESSES: usize = 4_096;
+
+/// The most channels that a network of language 2 may have.
+pub const MAX_LARGE_CHANNELS: usize = 16_384;
 
 /// The greatest capacity that a channel may have, and the greatest limit that a network may set on its capacities.
 pub const MAX_CAPACITY: u32 = 1_048_576;

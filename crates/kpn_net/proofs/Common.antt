@@ -8,8 +8,8 @@ pub use Rattle.std.proofs.lemmas.List.FromFn.{fill_by_all, get_or-map-range_with
 pub use Rattle.std.proofs.lemmas.List.Sums.{count_by_more_no, count_by_more_yes, fails_before_first, sum_by-take-le}
 pub use Rattle.std.proofs.lemmas.Result.{IfOk-weaker}
 pub use Rattle.std.specs.List.{AllWithin, HoldsAt, cons_option, filter_map, list_all, list_any, position, position_or_len, range_with_len, slice_get, zip}
-pub use Rattle.std.specs.Prelude.{Contains, MatchBool, unsigned_abs}
-pub use Rattle.kpn_limits.specs.declared.TheConstants.{MAX_CAPACITY, MAX_CHANNELS, MAX_PORTS, MAX_PROCESSES}
+pub use Rattle.std.specs.Prelude.{All, Contains, MatchBool, unsigned_abs}
+pub use Rattle.kpn_limits.specs.declared.TheConstants.{MAX_CAPACITY, MAX_CHANNELS, MAX_LARGE_CHANNELS, MAX_LARGE_PROCESSES, MAX_PORTS, MAX_PROCESSES}
 pub use Rattle.kpn_lang.proofs.Pairs.{Alike, Differ, same_by_pairs}
 pub use Rattle.kpn_lang.proofs.Prefixes.{IsPrefix-antisym, IsPrefix-refl, IsPrefix-same, IsPrefix-trans, prefixes_of_one}
 pub use Rattle.kpn_lang.proofs.Programs.{kept, limits}
@@ -20,7 +20,7 @@ pub use Rattle.kpn_lang.specs.Run.{Lists, Next, Ran, choose, ends, list_at, run,
 pub use Rattle.kpn_lang.specs.declared.talk.Ending.{Ending}
 pub use Rattle.kpn_lang.specs.declared.talk.Said.{Said}
 pub use Rattle.kpn_lang.specs.declared.talk.Said.TheVariants.{Got, Put}
-pub use Rattle.kpn_net.specs.Faults.{IsNetwork, are_several, channel_numbers, channels_fault, differs_from_its_program, exceeds, first_at, has_no_such_capacity, has_too_many, instances_fault, is_none, lacks_a_channel, lacks_its_program, matches_program, or_else, wrong_capacity}
+pub use Rattle.kpn_net.specs.Faults.{IsNetwork, are_several, channel_numbers, channels_fault, differs_from_its_program, exceeds, first_at, first_network_fault, has_no_such_capacity, has_too_many, instances_fault, is_none, lacks_a_channel, lacks_its_program, matches_program, most_channels, most_processes, or_else, wrong_capacity}
 pub use Rattle.kpn_net.specs.Iteration.{AgreeOnSources, IsBelowLeast, IsClosed, IsLeast, IsPrefixOnSources, NamesOutsBelow, first_round, given_by, given_or, iterate, lists_of, next_round, put_on, round, written_by}
 pub use Rattle.kpn_net.specs.Process.{AgreeOnIns, Family, IsFamilyPrefix, ProcessCanSay, ProcessComesTo, at_channel, ends_at_channel, out_of, ran_on, talk_on}
 pub use Rattle.kpn_net.specs.Sides.{Keeps, end_or, is_nobody, is_several, side_of, side_with}

@@ -1,12 +1,14 @@
 -- What holds of tables that keep the rules: each channel has one writer and one reader, and these agree with the ports
 -- of the instances.
-use Rattle.kpn_net.proofs.Common.{◌≡◌, ℕ, zero, suc, ◌+◌, ◌<◌, ◌≤◌, cond, Bool, true, false, ◌&&◌, ◌||◌, ◌⊎◌, eqb, eq-eqb, add-zero, zero-add, leb, ltb, List, [], ◌∷◌, ◌++◌, length, get_or, map, Option, Some, None, refl, sym, ap, ◌∙◌, subst, inl, inr, arith, position, position_or_len, list_any, range_with_len, slice_get, get_or_past, fails_before_first, get_or-map-range_with_len, length-map-range_with_len, cases_lt, false≢true, false_from_ne_true, ltb-false, leb-false, eqb-true, eqb-false, or_parts, and_parts, not-false, both_ways, MAX_PROCESSES, MAX_CHANNELS, MAX_CAPACITY, Parts, IsProgram, NetFault, NoSuchProgram, PortCount, NoSuchChannel, NoWriter, TwoWriters, NoReader, TwoReaders, Capacity, Instance, Process, Source, Sink, Growth, Tables, program_at, instance_at, program_of, channel_at, capacity, is_source, is_sink, grown_capacity, larger_capacity, ends_among, ends_from, writers_of, readers_of, writer_of, reader_of, has_too_many, lacks_its_program, matches_program, differs_from_its_program, lacks_a_channel, exceeds, has_no_such_capacity, channel_numbers, is_none, are_several, wrong_capacity, first_at, or_else, instances_fault, channels_fault, IsNetwork}
+use Rattle.kpn_net.proofs.Common.{◌≡◌, ℕ, zero, suc, ◌+◌, ◌<◌, ◌≤◌, cond, Bool, true, false, ◌&&◌, ◌||◌, ◌⊎◌, eqb, eq-eqb, add-zero, zero-add, leb, ltb, List, [], ◌∷◌, ◌++◌, length, get_or, map, Option, Some, None, refl, sym, ap, ◌∙◌, subst, inl, inr, arith, position, position_or_len, list_any, range_with_len, slice_get, get_or_past, fails_before_first, get_or-map-range_with_len, length-map-range_with_len, cases_lt, false≢true, false_from_ne_true, ltb-false, le-ltb, leb-false, eqb-true, eqb-false, or_parts, and_parts, not-false, both_ways, MAX_PROCESSES, MAX_LARGE_PROCESSES, MAX_LARGE_CHANNELS, MAX_CAPACITY, All, Parts, IsProgram, NetFault, NoSuchProgram, PortCount, NoSuchChannel, NoWriter, TwoWriters, NoReader, TwoReaders, Capacity, Instance, Process, Source, Sink, Growth, Tables, program_at, instance_at, program_of, channel_at, capacity, is_source, is_sink, grown_capacity, larger_capacity, ends_among, ends_from, writers_of, readers_of, writer_of, reader_of, most_processes, most_channels, has_too_many, lacks_its_program, matches_program, differs_from_its_program, lacks_a_channel, exceeds, has_no_such_capacity, channel_numbers, is_none, are_several, wrong_capacity, first_at, or_else, instances_fault, channels_fault, first_network_fault, IsNetwork}
 use Rattle.std.specs.Option.{option_map_or}
 use Rattle.std.proofs.lemmas.List.Folds.{list_any_at}
 use Rattle.kpn_net.specs.declared.tables.ChannelSpec.{ChannelSpec}
 use Rattle.kpn_net.specs.declared.tables.ChannelSpec.TheVariants as channel
 use Rattle.kpn_net.specs.declared.tables.End.{End}
 use Rattle.kpn_net.specs.declared.tables.Growth.TheVariants.{One, Double}
+use Rattle.kpn_net.specs.declared.tables.NetworkSize.{NetworkSize}
+use Rattle.kpn_net.specs.declared.tables.NetworkSize.TheVariants as size
 
 -- ---- searches that find nothing
 
@@ -39,9 +41,13 @@ or_else-None : (o after : Option NetFault) → or_else o after ≡ None → (o �
 or_else-None None after e = (refl, e)
 or_else-None (Some n) after e = absurd cc
 
+pub or_else-both : (o after : Option NetFault) → o ≡ None → after ≡ None → or_else o after ≡ None
+or_else-both None after e f = f
+or_else-both (Some fault) after e f = absurd cc
+
 -- the instances keep their rules
-pub record InstancesSound (t : Tables) : Type 0 where
-  pub few : has_too_many t ≡ false
+pub record InstancesSound (s : NetworkSize) (t : Tables) : Type 0 where
+  pub few : has_too_many s t ≡ false
   pub programs : position (lacks_its_program t) t.instances ≡ None
   pub ports : position (differs_from_its_program t) t.instances ≡ None
   pub channels : position (lacks_a_channel t) t.instances ≡ None
@@ -59,9 +65,9 @@ few_if_none : (b : Bool) (fault : NetFault) (after : Option NetFault) → cond b
 few_if_none true fault after e = absurd cc
 few_if_none false fault after e = (refl, e)
 
-pub InstancesSound-from : (t : Tables) → instances_fault t ≡ None → InstancesSound t
-InstancesSound-from t e =
-    let a = few_if_none (has_too_many t) _ _ e in
+pub InstancesSound-from : (s : NetworkSize) (t : Tables) → instances_fault s t ≡ None → InstancesSound s t
+InstancesSound-from s t e =
+    let a = few_if_none (has_too_many s t) _ _ e in
     let b = first_at-None _ NoSuchProgram _ a.1 in
     let d = first_at-None _ PortCount _ b.1 in
     let f = first_at-None _ NoSuchChannel _ d.1 in
@@ -76,12 +82,14 @@ ChannelsSound-from t e =
     let g = first_at-None _ Capacity _ f.1 in
     record { written = a.0; written_once = b.0; read = d.0; read_once = f.0; capacity = g.0 }
 
-pub instances_sound : (t : Tables) → IsNetwork t → InstancesSound t
+pub instances_sound : (t : Tables) → IsNetwork t → InstancesSound size.Large t
 instances_sound t network =
-    InstancesSound-from t (or_else-None (instances_fault t) (channels_fault t) network.sound).0
+    InstancesSound-from size.Large t
+    (or_else-None (instances_fault size.Large t) (channels_fault t) network.sound).0
 
 pub channels_sound : (t : Tables) → IsNetwork t → ChannelsSound t
-channels_sound t network = ChannelsSound-from t (or_else-None (instances_fault t) (channels_fault t) network.sound).1
+channels_sound t network =
+    ChannelsSound-from t (or_else-None (instances_fault size.Large t) (channels_fault t) network.sound).1
 
 -- ---- the instances
 
@@ -149,21 +157,63 @@ IsProgram-of t network p below = network.programs _ _ (IsInstance-at t network p
 
 -- ---- how many there are
 
-pub record Sizes (t : Tables) : Type 0 where
+pub record Sizes (s : NetworkSize) (t : Tables) : Type 0 where
   pub programs : length t.programs ≤ MAX_PROCESSES
-  pub instances : length t.instances ≤ MAX_PROCESSES
-  pub channels : length t.channels ≤ MAX_CHANNELS
+  pub instances : length t.instances ≤ most_processes s
+  pub channels : length t.channels ≤ most_channels s
 
-pub Sizes-from : (t : Tables) → has_too_many t ≡ false → Sizes t
-Sizes-from t few =
+pub Sizes-from : (s : NetworkSize) (t : Tables) → has_too_many s t ≡ false → Sizes s t
+Sizes-from s t few =
     let some =
-    or_parts (ltb MAX_PROCESSES (length t.programs) || ltb MAX_PROCESSES (length t.instances))
-    (ltb MAX_CHANNELS (length t.channels)) few in
-    let two = or_parts (ltb MAX_PROCESSES (length t.programs)) (ltb MAX_PROCESSES (length t.instances)) some.0 in
+    or_parts (ltb MAX_PROCESSES (length t.programs) || ltb (most_processes s) (length t.instances))
+    (ltb (most_channels s) (length t.channels)) few in
+    let two = or_parts (ltb MAX_PROCESSES (length t.programs)) (ltb (most_processes s) (length t.instances)) some.0 in
     record { programs = ltb-false _ _ two.0; instances = ltb-false _ _ two.1; channels = ltb-false _ _ some.1 }
 
-pub sizes : (t : Tables) → IsNetwork t → Sizes t
-sizes t network = Sizes-from t (instances_sound t network).few
+pub sizes : (t : Tables) → IsNetwork t → Sizes size.Large t
+sizes t network = Sizes-from size.Large t (instances_sound t network).few
+
+-- tables of the usual size are none too large
+few_in_large : (s : NetworkSize) (t : Tables) → has_too_many s t ≡ false → has_too_many size.Large t ≡ false
+few_in_large size.Large t few = few
+few_in_large size.Usual t few =
+    let sizes = Sizes-from size.Usual t few in
+    let programs : ltb MAX_PROCESSES (length t.programs) ≡ false = le-ltb _ _ sizes.programs in
+    let instances : ltb MAX_LARGE_PROCESSES (length t.instances) ≡ false =
+    le-ltb _ _ (omega (arith, sizes.instances)) in
+    let channels : ltb MAX_LARGE_CHANNELS (length t.channels) ≡ false =
+    le-ltb _ _ (omega (arith, sizes.channels)) in
+    λ i. (programs i || instances i) || channels i
+
+few_then : (b : Bool) (fault : NetFault) (after : Option NetFault) → b ≡ false → after ≡ None
+    → cond b (Some fault) after ≡ None
+few_then b fault after few e = ap (λ c. cond c (Some fault) after) few ∙ e
+
+-- where the instances of a network of one size keep the rules, they keep those of another that is large enough
+instances_at : (s other : NetworkSize) (t : Tables) → instances_fault s t ≡ None → has_too_many other t ≡ false
+    → instances_fault other t ≡ None
+instances_at s other t e few = few_then (has_too_many other t) _ _ few (few_if_none (has_too_many s t) _ _ e).1
+
+pub instances_in_large : (s : NetworkSize) (t : Tables) → instances_fault s t ≡ None
+    → instances_fault size.Large t ≡ None
+instances_in_large s t e = instances_at s size.Large t e (few_in_large s t (InstancesSound-from s t e).few)
+
+-- tables of each size keep the rules of networks
+pub network_of_size : (s : NetworkSize) (t : Tables) → All IsProgram t.programs → first_network_fault s t ≡ None
+    → IsNetwork t
+network_of_size s t programs e =
+    let parts = or_else-None (instances_fault s t) (channels_fault t) e in
+    record { programs = programs; sound = or_else-both _ _ (instances_in_large s t parts.0) parts.1 }
+
+pub few_of_size : (s : NetworkSize) (t : Tables) → first_network_fault s t ≡ None → has_too_many s t ≡ false
+few_of_size s t e = (InstancesSound-from s t (or_else-None (instances_fault s t) (channels_fault t) e).0).few
+
+-- and a network that has few enough parts keeps those of its size
+pub sound_of_size : (s : NetworkSize) (t : Tables) → IsNetwork t → has_too_many s t ≡ false
+    → first_network_fault s t ≡ None
+sound_of_size s t network few =
+    let parts = or_else-None (instances_fault size.Large t) (channels_fault t) network.sound in
+    or_else-both _ _ (instances_at size.Large s t parts.0 few) parts.1
 
 -- ---- the ends of a channel
 
@@ -294,10 +344,6 @@ ends_from-HasPort end ports c p (x ∷ instances) d h =
             stands = r.stands;
           }
     ]
-
-pub or_else-both : (o after : Option NetFault) → o ≡ None → after ≡ None → or_else o after ≡ None
-or_else-both None after e f = f
-or_else-both (Some fault) after e f = absurd cc
 
 -- a process has a channel at an out port
 pub record Writes (t : Tables) (p c : ℕ) : Type 0 where

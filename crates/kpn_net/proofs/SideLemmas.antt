@@ -324,5 +324,12 @@ Keeps-nobody n m h =
     let short : c < n = omega (arith, length-take n (replicate m Nobody)) in
     get_or-take n (replicate m Nobody) c Nobody short ∙ get_or-replicate m c Nobody Nobody (omega arith))
 
+-- the sides of channels without ends
+pub Keeps-fresh : (n : ℕ) (sides : List Side) → sides ≡ replicate n Nobody → Keeps sides (λ c. [])
+Keeps-fresh n sides e =
+    subst (λ (xs : List Side). Keeps xs (λ c. [])) (sym e)
+    (Keeps-from (replicate n Nobody) (λ c. [])
+    (λ c below. get_or-replicate n c Nobody Nobody (let l = length-replicate n Nobody in omega (arith, l, below))))
+
 pub length-fresh : (n m : ℕ) → n ≤ m → length (take n (replicate m Nobody)) ≡ n
 length-fresh n m h = let long = length-replicate m Nobody in omega (arith, length-take n (replicate m Nobody))

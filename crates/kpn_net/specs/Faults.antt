@@ -1,23 +1,33 @@
 -- The rules that the tables of a network keep, and the first rule that tables break.
-use Rattle.std.specs.Prelude.{◌≡◌, ℕ, Bool, true, false, not, ◌&&◌, ◌||◌, nat_lt, nat_le, nat_eq, if◌then◌else◌, List, [], ◌∷◌, length, map, Option, Some, None, position, All, slice_get}
+use Rattle.std.specs.Prelude.{◌≡◌, ◌⊎◌, ℕ, Bool, true, false, not, ◌&&◌, ◌||◌, nat_lt, nat_le, nat_eq, if◌then◌else◌, List, [], ◌∷◌, length, map, Option, Some, None, Result, Ok, Err, position, All, slice_get}
 use Rattle.std.specs.List.{list_any, range_with_len}
 use Rattle.std.specs.Option.{option_map_or}
-use Rattle.kpn_limits.specs.declared.TheConstants.{MAX_PROCESSES, MAX_CHANNELS, MAX_CAPACITY}
+use Rattle.kpn_limits.specs.declared.TheConstants.{MAX_PROCESSES, MAX_CHANNELS, MAX_LARGE_PROCESSES, MAX_LARGE_CHANNELS, MAX_CAPACITY}
 use Rattle.kpn_lang.specs.Parts.{Parts, IsProgram}
 use Rattle.kpn_net.specs.declared.fault.NetFault.{NetFault}
-use Rattle.kpn_net.specs.declared.fault.NetFault.TheVariants.{TooMany, NoSuchProgram, PortCount, NoSuchChannel, NoWriter, TwoWriters, NoReader, TwoReaders, Capacity}
+use Rattle.kpn_net.specs.declared.fault.NetFault.TheVariants.{TooMany, NoSuchProgram, PortCount, NoSuchChannel, NoWriter, TwoWriters, NoReader, TwoReaders, Capacity, NoMemory}
 use Rattle.kpn_net.specs.declared.tables.ChannelSpec.{ChannelSpec}
 use Rattle.kpn_net.specs.declared.tables.ChannelSpec.TheVariants as channel
 use Rattle.kpn_net.specs.declared.tables.Instance.{Instance}
 use Rattle.kpn_net.specs.declared.tables.End.{End}
+use Rattle.kpn_net.specs.declared.tables.NetworkSize.{NetworkSize}
+use Rattle.kpn_net.specs.declared.tables.NetworkSize.TheVariants as size
 use Rattle.kpn_net.specs.Tables.{Tables, writers_of, readers_of}
 
 -- ---- 10: there are too many programs, instances or channels
 
-abbrev pub has_too_many : Tables → Bool
-has_too_many t =
-    nat_lt MAX_PROCESSES (length t.programs) || nat_lt MAX_PROCESSES (length t.instances)
-    || nat_lt MAX_CHANNELS (length t.channels)
+abbrev pub most_processes : NetworkSize → ℕ
+most_processes size.Usual = MAX_PROCESSES
+most_processes size.Large = MAX_LARGE_PROCESSES
+
+abbrev pub most_channels : NetworkSize → ℕ
+most_channels size.Usual = MAX_CHANNELS
+most_channels size.Large = MAX_LARGE_CHANNELS
+
+abbrev pub has_too_many : NetworkSize → Tables → Bool
+has_too_many s t =
+    nat_lt MAX_PROCESSES (length t.programs) || nat_lt (most_processes s) (length t.instances)
+    || nat_lt (most_channels s) (length t.channels)
 
 -- ---- 11: an instance names a program that is not there
 
@@ -82,10 +92,10 @@ abbrev pub or_else : Option NetFault → Option NetFault → Option NetFault
 or_else None after = after
 or_else (Some fault) after = Some fault
 
--- the first rule that the instances break
-abbrev pub instances_fault : Tables → Option NetFault
-instances_fault t =
-    if has_too_many t then Some TooMany else
+-- the first rule that the instances of a network of this size break
+abbrev pub instances_fault : NetworkSize → Tables → Option NetFault
+instances_fault s t =
+    if has_too_many s t then Some TooMany else
     first_at (position (lacks_its_program t) t.instances) NoSuchProgram (
     first_at (position (differs_from_its_program t) t.instances) PortCount (
     first_at (position (lacks_a_channel t) t.instances) NoSuchChannel None))
@@ -99,11 +109,16 @@ channels_fault t =
     first_at (position are_several (map (readers_of t) (channel_numbers t))) TwoReaders (
     first_at (wrong_capacity t) Capacity None))))
 
--- the first rule that the tables break: each is tested on the whole network before the next
-abbrev pub first_network_fault : Tables → Option NetFault
-first_network_fault t = or_else (instances_fault t) (channels_fault t)
+-- the first rule that the tables of this size break: each is tested on the whole network before the next
+abbrev pub first_network_fault : NetworkSize → Tables → Option NetFault
+first_network_fault s t = or_else (instances_fault s t) (channels_fault t)
 
--- the tables of programs keep each rule
+-- the tables of programs keep each rule; they may have the larger size
 pub record IsNetwork (t : Tables) : Type 0 where
   pub programs : All IsProgram t.programs
-  pub sound : first_network_fault t ≡ None
+  pub sound : first_network_fault size.Large t ≡ None
+
+-- what a call for a network of this size makes of tables: the network, or the first rule that they break
+abbrev pub MakesNetwork : NetworkSize → Tables → Result Tables NetFault → Type 0
+MakesNetwork s t (Ok network) = (first_network_fault s t ≡ None) × (network ≡ t)
+MakesNetwork s t (Err fault) = (fault ≡ NoMemory) ⊎ (first_network_fault s t ≡ Some fault)

@@ -8,7 +8,7 @@ use thiserror::Error;
 /// The first rule that the tables of a network break, with its number.
 #[derive(Clone, Copy, Debug, PartialEq, Eq, Error)]
 pub enum NetFault {
-    /// 10: more than `MAX_PROCESSES` programs or instances, or more than `MAX_CHANNELS` channels.
+    /// 10: more than `MAX_PROCESSES` programs, or more instances or channels than a network of this size may have.
     #[error("there are more programs, instances or channels than the limits")]
     TooMany,
     /// 11: this instance names a program that is not there.

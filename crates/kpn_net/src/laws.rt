@@ -12,13 +12,13 @@ ghost use Rattle.kpn_net.specs.Waits.{AreDistinct};
 ghost use Rattle.kpn_net.specs.Process.{Family, IsFamilyPrefix, AgreeOnIns, ProcessCanSay, ProcessComesTo};
 ghost use Rattle.kpn_net.specs.Iteration.{iterate, IsPrefixOnSources, AgreeOnSources, IsClosed, IsBelowLeast, IsLeast};
 
-use kpn_limits::{MAX_CAPACITY, MAX_CHANNELS, MAX_PORTS, MAX_PROCESSES};
+use kpn_limits::{MAX_CAPACITY, MAX_LARGE_CHANNELS, MAX_LARGE_PROCESSES, MAX_PORTS, MAX_PROCESSES};
 
 /// A network has no more programs, processes and channels than its limits allow.
 pub fn networks_are_bounded()
     ensures programs { (t : Tables) → IsNetwork t → length t.programs ≤ MAX_PROCESSES }
-    ensures processes { (t : Tables) → IsNetwork t → length t.instances ≤ MAX_PROCESSES }
-    ensures channels { (t : Tables) → IsNetwork t → length t.channels ≤ MAX_CHANNELS }
+    ensures processes { (t : Tables) → IsNetwork t → length t.instances ≤ MAX_LARGE_PROCESSES }
+    ensures channels { (t : Tables) → IsNetwork t → length t.channels ≤ MAX_LARGE_CHANNELS }
 {}
 
 /// Each channel of a network has exactly one writer and exactly one reader. The caller writes the

@@ -14,5 +14,5 @@ pub use fault::NetFault;
 pub use found::Found;
 pub use iteration::rounds;
 pub use network::{Network, same};
-pub use tables::{ChannelSpec, End, Growth, Instance, Policy};
+pub use tables::{ChannelSpec, End, Growth, Instance, NetworkSize, Policy};
 pub use wait::Wait;

@@ -1,12 +1,13 @@
 //! Networks: tables that keep the rules, made once and read many times.
-ghost use Rattle.std.specs.Prelude.{◌≡◌, ◌<◌, ◌↔◌, IsTrue, length, IfSome, IfNone, IfOk, MatchResult};
+ghost use Rattle.std.specs.Prelude.{◌≡◌, ◌<◌, ◌↔◌, [], None, IsTrue, length, IfSome, IfNone, IfOk, MatchResult};
 ghost use Rattle.kpn_net.specs.Tables.{instance_at, program_at, program_of, any_has_cells, channel_at, is_source, is_sink, writer_of, reader_of, capacity, larger_capacity, under};
-ghost use Rattle.kpn_net.specs.Faults.{first_network_fault, IsNetwork};
+ghost use Rattle.kpn_net.specs.Faults.{instances_fault, channels_fault, first_network_fault, IsNetwork, MakesNetwork};
 ghost use Rattle.kpn_net.specs.Iteration.{sources};
-ghost use Rattle.kpn_net.specs.View.{tables_with};
+ghost use Rattle.kpn_net.specs.Sides.{Keeps};
+ghost use Rattle.kpn_net.specs.View.{tables_with, tables_of};
 
 use crate::fault::NetFault;
-use crate::tables::{ChannelSpec, End, Growth, Instance, Policy};
+use crate::tables::{ChannelSpec, End, Growth, Instance, NetworkSize, Policy};
 use kpn_lang::Program;
 use kpn_limits::MAX_CHANNELS;
 use std::alloc::{AllocError, Global};
@@ -68,7 +69,7 @@ impl Model for Network {
 }
 
 impl Network {
-    /// The network of these tables.
+    /// The network of these tables, of the usual size.
     ///
     /// `limit` bounds each capacity and is 1 to `MAX_CAPACITY`. `policy` says which channels grow, `growth` how large.
     /// The fault is that of the first rule that the tables break, in the order of `NetFault`, at the least number. It
@@ -85,10 +86,10 @@ impl Network {
     ) -> Result<Network, NetFault>
         ensures refused { let t = tables_with programs.items instances.items
             channels.items limit policy growth in
-            IfSome (first_network_fault t) (λ fault. result ≡ Err fault) }
+            IfSome (first_network_fault NetworkSize.Usual t) (λ fault. result ≡ Err fault) }
         ensures made { let t = tables_with programs.items instances.items
             channels.items limit policy growth in
-            IfNone (first_network_fault t)
+            IfNone (first_network_fault NetworkSize.Usual t)
             (MatchResult result (λ network. network ≡ t) (λ fault. fault ≡ NetFault.NoMemory)) }
     {
         let parts = NetworkParts {
@@ -99,14 +100,65 @@ impl Network {
             policy,
             growth,
         };
-        if let Some(fault) = parts.instances_fault() {
+        if let Some(fault) = parts.instances_fault(NetworkSize::Usual) {
             return Err(fault);
         }
         let mut writers = [Side::Nobody; MAX_CHANNELS];
         let mut readers = [Side::Nobody; MAX_CHANNELS];
         let count = parts.channels.len();
-        let writers = &mut writers[..count];
-        let readers = &mut readers[..count];
+        Network::joined(alloc, parts, &mut writers[..count], &mut readers[..count])
+    }
+
+    /// The same of a network of this size. It asks for memory before it tests the rules of channels.
+    pub fn sized(
+        alloc: Global,
+        size: NetworkSize,
+        programs: Vec<Program>,
+        instances: Vec<Instance>,
+        channels: Vec<ChannelSpec>,
+        limit: u32,
+        policy: Policy,
+        growth: Growth,
+    ) -> Result<Network, NetFault>
+        ensures { let t = tables_with programs.items instances.items
+            channels.items limit policy growth in
+            MakesNetwork size t result }
+    {
+        let parts = NetworkParts {
+            programs,
+            instances,
+            channels,
+            limit,
+            policy,
+            growth,
+        };
+        if let Some(fault) = parts.instances_fault(size) {
+            return Err(fault);
+        }
+        let count = parts.channels.len();
+        let mut writers = vec![in alloc; Side::Nobody; count]?;
+        let mut readers = vec![in alloc; Side::Nobody; count]?;
+        Network::joined(alloc, parts, &mut writers, &mut readers)
+    }
+
+    /// The network of parts whose instances keep the rules, unless a channel breaks one. The sides are those of
+    /// channels without ends.
+    fn joined(
+        alloc: Global,
+        parts: NetworkParts,
+        writers: &mut [Side],
+        readers: &mut [Side],
+    ) -> Result<Network, NetFault>
+        requires instances { instances_fault NetworkSize.Large (tables_of parts) ≡ None }
+        requires writers_len { length writers.old ≡ length parts.channels.items }
+        requires readers_len { length readers.old ≡ length parts.channels.items }
+        requires no_writers { Keeps writers.old (λ c. []) }
+        requires no_readers { Keeps readers.old (λ c. []) }
+        ensures refused { IfSome (channels_fault (tables_of parts)) (λ fault. result ≡ Err fault) }
+        ensures made { IfNone (channels_fault (tables_of parts))
+            (MatchResult result (λ network. network ≡ tables_of parts)
+                (λ fault. fault ≡ NetFault.NoMemory)) }
+    {
         parts.count_ends(writers, readers);
         if let Some(fault) = parts.channels_fault(writers, readers) {
             return Err(fault);

@@ -1,5 +1,9 @@
-//! What the tables of a network are made of.
+//! What the tables of a network are made of, and how large they may be.
+ghost use Rattle.std.specs.Prelude.{◌≡◌};
+ghost use Rattle.kpn_net.specs.Faults.{most_processes, most_channels};
+
 use kpn_lang::Sequence;
+use kpn_limits::{MAX_CHANNELS, MAX_LARGE_CHANNELS, MAX_LARGE_PROCESSES, MAX_PROCESSES};
 
 /// A channel of a network, by what is at its outer end.
 #[derive(Clone, Copy, PartialEq)]
@@ -28,6 +32,37 @@ pub enum Growth {
     One,
     /// Its capacity becomes twice as large, or the limit if that is less.
     Double,
+}
+
+/// How many processes and channels a network may have.
+#[derive(Clone, Copy, PartialEq)]
+pub enum NetworkSize {
+    /// At most `MAX_PROCESSES` and `MAX_CHANNELS`.
+    Usual,
+    /// At most `MAX_LARGE_PROCESSES` and `MAX_LARGE_CHANNELS`.
+    Large,
+}
+
+impl NetworkSize {
+    /// The most processes.
+    pub fn processes(self) -> usize
+        ensures { result ≡ most_processes self }
+    {
+        match self {
+            NetworkSize::Usual => MAX_PROCESSES,
+            NetworkSize::Large => MAX_LARGE_PROCESSES,
+        }
+    }
+
+    /// The most channels.
+    pub fn channels(self) -> usize
+        ensures { result ≡ most_channels self }
+    {
+        match self {
+            NetworkSize::Usual => MAX_CHANNELS,
+            NetworkSize::Large => MAX_LARGE_CHANNELS,
+        }
+    }
 }
 
 /// A process of a network: an instance of a program.

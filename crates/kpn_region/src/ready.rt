@@ -1,9 +1,9 @@
 //! Which processes may go on.
-use kpn_limits::MAX_PROCESSES;
+use kpn_limits::MAX_LARGE_PROCESSES;
 
 const WORD: usize = 64;
 
-const WORDS: usize = MAX_PROCESSES / WORD;
+const WORDS: usize = MAX_LARGE_PROCESSES / WORD;
 
 /// A set of processes, which takes them out in order of number, round after round. Nothing is proved of it: whom it
 /// names has a turn, and may find that it can't go on.

@@ -18,12 +18,13 @@ pub use Rattle.kpn_lang.specs.Parts.{IsProgram, Parts, first_fault, inner_blocks
 pub use Rattle.kpn_lang.specs.Tree.{Tree, block_at, tree_of, tree_over}
 pub use Rattle.kpn_lang.specs.View.{statements_of}
 pub use Rattle.kpn_lang.specs.declared.program.ProgramFault.{ProgramFault}
-pub use Rattle.kpn_net.specs.Faults.{IsNetwork, first_network_fault}
+pub use Rattle.kpn_net.specs.Faults.{IsNetwork, MakesNetwork, first_network_fault, has_too_many}
 pub use Rattle.kpn_net.specs.Tables.{Tables, capacity, channel_at, ends_among, ends_from, instance_at, is_sink, reader_of}
 pub use Rattle.kpn_net.specs.declared.fault.NetFault.{NetFault}
 pub use Rattle.kpn_net.specs.declared.tables.ChannelSpec.{ChannelSpec}
 pub use Rattle.kpn_net.specs.declared.tables.Growth.{Growth}
 pub use Rattle.kpn_net.specs.declared.tables.Instance.{Instance}
+pub use Rattle.kpn_net.specs.declared.tables.NetworkSize.{NetworkSize}
 pub use Rattle.kpn_net.specs.declared.tables.Policy.{Policy}
 pub use Rattle.kpn_text_expand.specs.Expanding.{expanded}
 pub use Rattle.kpn_text_grammar.specs.Operators.{LOOSEST, OPERAND, left_side, operator_mark, right_side, tightness}
@@ -69,7 +70,7 @@ pub use Rattle.kpn_text_tokens.specs.declared.tokens.Lexeme.{Lexeme}
 pub use Rattle.kpn_text_tokens.specs.declared.tokens.Mark.{Mark}
 pub use Rattle.kpn_text_tokens.specs.declared.tokens.Token.{Token}
 pub use Rattle.kpn_text.specs.CanonicalLaws.{DescriptionIsRead, EndsWord, LanguageIsTold, ReadDescriptionsAreProper}
-pub use Rattle.kpn_text.specs.Document.{Document, canonical_text, document_named, document_with}
+pub use Rattle.kpn_text.specs.Document.{Document, canonical_text, document_named, document_with, network_size}
 pub use Rattle.kpn_text.specs.Fault.{expand_fault, grammar_fault, lex_fault, name_fault, net_fault}
 pub use Rattle.kpn_text.specs.Making.{TellsCause, TextReads, TokensFail, program_told}
 pub use Rattle.kpn_text.specs.Named.{array_named, call_named, channel_named, declarations_named, description_named, growth_named, instance_named, limit_named, literal_named, network_named, number_named, policy_named, process_named, row_name, row_name_or, statements_named, table_named, tables_named, term_named}

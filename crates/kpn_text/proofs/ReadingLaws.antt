@@ -1,8 +1,9 @@
 -- What the phases return is what the text spells.
-use Rattle.kpn_text.proofs.Common.{◌≡◌, ℕ, suc, ◌≤◌, Bool, true, false, if◌then◌else◌, List, [], ◌∷◌, length, Option, Some, None, Result, Ok, Err, refl, sym, ap, ◌∙◌, subst, arith, All-nil, All-cons, All-head, All-tail, MAX_TEXT_BYTES, MAX_LEVELS, Parts, IsProgram, ProgramFault, NetFault, Tables, IsNetwork, LexFault, Language, Lexeme, Token, lexemes_of, scan, language_of, expanded, GrammarFault, Description, IsDescription, kinds, description_of, NameError, Document, document_named, SpellsDocument, IsOfSomeText, AreNamed, ok_is, then_ok, went, are_named, resolved_each}
+use Rattle.kpn_text.proofs.Common.{◌≡◌, ℕ, suc, ◌≤◌, Bool, true, false, if◌then◌else◌, List, [], ◌∷◌, length, Option, Some, None, Result, Ok, Err, refl, sym, ap, ◌∙◌, subst, arith, All-nil, All-cons, All-head, All-tail, MAX_TEXT_BYTES, MAX_LEVELS, Parts, IsProgram, ProgramFault, NetFault, NetworkSize, Tables, IsNetwork, has_too_many, LexFault, Language, Lexeme, Token, lexemes_of, scan, language_of, expanded, GrammarFault, Description, IsDescription, kinds, description_of, NameError, Document, document_named, network_size, SpellsDocument, IsOfSomeText, AreNamed, ok_is, then_ok, went, are_named, resolved_each}
 use Rattle.std.specs.Prelude.{nat_lt, All}
 use Rattle.kpn_lang.specs.Parts as lang
 use Rattle.kpn_net.specs.Faults as net
+use Rattle.kpn_net.proofs.Networks.{network_of_size, few_of_size, sound_of_size}
 use Rattle.kpn_text_tokens.specs.declared.lexer.LexFault.TheVariants as lex
 use Rattle.kpn_text_tokens.specs.Laws.{tokens_in, tokens_of}
 use Rattle.kpn_text_tokens.proofs.TokenLaws.{short_text}
@@ -74,16 +75,16 @@ programs_sound i (p ∷ ps) all =
     ap (λ f. program_or i f (programs_cause (suc i) ps)) sound
     ∙ programs_sound (suc i) ps (All-tail IsProgram p ps all)
 
-pub network_sound : (t : Tables) → IsNetwork t → tables_cause t ≡ None
-network_sound t is =
-    ap (λ c. or_cause c (network_cause (net.first_network_fault t))) (programs_sound 0 t.programs is.programs)
-    ∙ ap network_cause is.sound
+pub network_sound : (s : NetworkSize) (t : Tables) → IsNetwork t → has_too_many s t ≡ false → tables_cause s t ≡ None
+network_sound s t is few =
+    ap (λ c. or_cause c (network_cause (net.first_network_fault s t))) (programs_sound 0 t.programs is.programs)
+    ∙ ap network_cause (sound_of_size s t is few)
 
 -- ---- the phases one after the other
 
 -- what follows the names, the tree and the tokens
 abbrev after_names : Language → Named → Result Document Cause
-after_names l n = unless (tables_cause n.tables) (document_named l n)
+after_names l n = unless (tables_cause (network_size l) n.tables) (document_named l n)
 
 abbrev after_tree : Language → Description → Result Document Cause
 after_tree l tree = and_then (phase in_names (resolve l tree)) (after_names l)
@@ -125,7 +126,8 @@ pub record ArePhases (l : Language) (text : List ℕ) (ls : List Lexeme) (tree :
   pub names : resolve l tree ≡ Ok n
 
 pub last_phases : (l : Language) (text : List ℕ) (ls : List Lexeme) (tree : Description) (n : Named)
-    → ArePhases l text ls tree n → document_in l text ≡ unless (tables_cause n.tables) (document_named l n)
+    → ArePhases l text ls tree n
+    → document_in l text ≡ unless (tables_cause (network_size l) n.tables) (document_named l n)
 last_phases l text ls tree n is =
     tree_read l text ls tree is.tokens is.grammar ∙ phase_ok in_names (resolve l tree) (after_names l) n is.names
 
@@ -139,7 +141,8 @@ spelled_reads text d s =
     description_again (record { end = length text; process = 0; language = l; levels = MAX_LEVELS }) s.tokens s.tree
     (omega arith) s.spelled in
     let tables : s.named.tables ≡ d.tables = ap (λ (x : Document). x.tables) s.is in
-    let sound : tables_cause s.named.tables ≡ None = ap tables_cause tables ∙ network_sound d.tables s.keeps in
+    let sound : tables_cause (network_size l) s.named.tables ≡ None =
+    ap (tables_cause (network_size l)) tables ∙ network_sound (network_size l) d.tables s.keeps s.few in
     ap (λ k. document_in k text) s.language
     ∙ last_phases l text s.tokens s.tree s.named (record { tokens = meant; grammar = g; names = s.resolved })
     ∙ ap (λ c. unless c (document_named l s.named)) sound ∙ ap Ok s.is
@@ -152,8 +155,9 @@ one_document text d e s t = ok_is {E = Cause} d e (sym (spelled_reads text d s) 
 
 pub read_spelled : (text : List ℕ) (ls : List Lexeme) (tree : Description) (n : Named)
     → ArePhases (language_of text) text ls tree n → IsNetwork n.tables
+    → has_too_many (network_size (language_of text)) n.tables ≡ false
     → SpellsDocument text (document_named (language_of text) n)
-read_spelled text ls tree n is keeps =
+read_spelled text ls tree n is keeps few =
     let l : Language = language_of text in
     let m : IsMeant l text ls = is_meant l text ls is.tokens in
     record {
@@ -169,6 +173,7 @@ read_spelled text ls tree n is keeps =
       resolved = is.names;
       is = refl;
       keeps = keeps;
+      few = few;
     }
 
 -- ---- the phases return a document if and only if the text spells it
@@ -196,10 +201,15 @@ network_by : (f : Option NetFault) → network_cause f ≡ None → f ≡ None
 network_by None e = refl
 network_by (Some f) e = absurd cc
 
-tables_keep : (t : Tables) → tables_cause t ≡ None → All AreCounted t.programs → IsNetwork t
-tables_keep t e all =
-    let h = tables_by (programs_cause 0 t.programs) (network_cause (net.first_network_fault t)) e in
-    record { programs = programs_are 0 t.programs h.0 all; sound = network_by (net.first_network_fault t) h.1 }
+tables_keep : (s : NetworkSize) (t : Tables) → tables_cause s t ≡ None → All AreCounted t.programs → IsNetwork t
+tables_keep s t e all =
+    let h = tables_by (programs_cause 0 t.programs) (network_cause (net.first_network_fault s t)) e in
+    network_of_size s t (programs_are 0 t.programs h.0 all) (network_by (net.first_network_fault s t) h.1)
+
+pub few_tables : (s : NetworkSize) (t : Tables) → tables_cause s t ≡ None → has_too_many s t ≡ false
+few_tables s t e =
+    let h = tables_by (programs_cause 0 t.programs) (network_cause (net.first_network_fault s t)) e in
+    few_of_size s t (network_by (net.first_network_fault s t) h.1)
 
 last_step : {D : Type 0} (c : Option Cause) (made x : D) → unless c made ≡ Ok x → (c ≡ None) × (made ≡ x)
 last_step None made x e = (refl, ok_is made x e)
@@ -212,10 +222,11 @@ reads_spelled text d e =
     let meant = went (meant_in l text) _ d e in
     phase_step in_grammar (description_of l (length text) meant.value) _ d meant.rest (λ tree grammar g.
     phase_step in_names (resolve l tree) _ d g (λ n names h.
-    let last = last_step (tables_cause n.tables) (document_named l n) d h in
+    let last = last_step (tables_cause (network_size l) n.tables) (document_named l n) d h in
     subst (λ (x : Document). SpellsDocument text x) last.1
     (read_spelled text meant.value tree n (record { tokens = meant.first; grammar = grammar; names = names })
-    (tables_keep n.tables last.0 (resolved_has l tree n names)))))
+    (tables_keep (network_size l) n.tables last.0 (resolved_has l tree n names))
+    (few_tables (network_size l) n.tables last.0))))
 
 -- ---- what is known of a document that some text spells
 

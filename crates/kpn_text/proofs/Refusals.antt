@@ -64,21 +64,26 @@ tells_unless (Some cause) d f h = h
 tells_unless None d f h = absurd h
 
 pub network_refused : (bytes : List ℕ) (ls : List Lexeme) (tree : Description) (n : Named) (f : TextFault)
-    → ArePhases (language_of bytes) bytes ls tree n → (f ≡ text.NoMemory) ⊎ TellsCause (tables_cause n.tables) f
-    → Refuses bytes f
+    → ArePhases (language_of bytes) bytes ls tree n
+    → (f ≡ text.NoMemory) ⊎ TellsCause (tables_cause (network_size (language_of bytes)) n.tables) f → Refuses bytes f
 network_refused bytes ls tree n f is (inl h) = inl h
 network_refused bytes ls tree n f is (inr h) =
     inr
     (subst (λ r. TellsWhatIsFound r f) (sym (last_phases (language_of bytes) bytes ls tree n is))
-    (tells_unless (tables_cause n.tables) (document_named (language_of bytes) n) f h))
+    (tells_unless (tables_cause (network_size (language_of bytes)) n.tables) (document_named (language_of bytes) n) f h))
 
 pub made_spelled : (bytes : List ℕ) (ls : List Lexeme) (tree : Description) (n : Named) (l : Language)
     (network : Tables) (own : NetworkNames) → ArePhases (language_of bytes) bytes ls tree n → l ≡ language_of bytes
-    → network ≡ n.tables → own ≡ names_in n → IsNetwork network → SpellsDocument bytes (document_with l network own)
-made_spelled bytes ls tree n l network own is told e h keeps =
+    → network ≡ n.tables → own ≡ names_in n → IsNetwork network
+    → tables_cause (network_size l) n.tables ≡ None
+    → SpellsDocument bytes (document_with l network own)
+made_spelled bytes ls tree n l network own is told e h keeps sound =
     let same : document_named (language_of bytes) n ≡ document_with l network own =
     λ i. document_with (sym told i) (sym e i) (sym h i) in
-    subst (λ (d : Document). SpellsDocument bytes d) same (read_spelled bytes ls tree n is (subst IsNetwork e keeps))
+    subst (λ (d : Document). SpellsDocument bytes d) same
+    (read_spelled bytes ls tree n is (subst IsNetwork e keeps)
+    (few_tables (network_size (language_of bytes)) n.tables
+    (subst (λ k. tables_cause (network_size k) n.tables ≡ None) told sound)))
 
 pub only_this : (bytes : List ℕ) (r : Result Document TextFault) → TextReads bytes r → (d : Document) → SpellsDocument bytes d
     → OkOr text.NoMemory r (λ found. found ≡ d)

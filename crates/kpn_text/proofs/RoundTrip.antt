@@ -266,6 +266,7 @@ printed_spells flat limits spells is_read is_told are_proper d h short =
       resolved = k.again;
       is = s.is;
       keeps = s.keeps;
+      few = s.few;
     }
 
 -- what a call that printed the document, by its language, tables and names, returned is read again

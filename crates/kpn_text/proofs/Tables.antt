@@ -1,6 +1,6 @@
 -- Names in tables, and tables taken item by item.
-use Rattle.kpn_text.proofs.Common.{◌≡◌, ℕ, zero, suc, ◌+◌, ◌<◌, ◌≤◌, List, [], ◌∷◌, ◌++◌, length, map, get_or, drop, Option, Some, None, Result, Ok, Err, refl, sym, ap, ◌∙◌, subst, append_assoc, append-nil, add-one, arith, length-append, inl, inr, drop-cons, drop_all, Cause, in_network, network_cause, or_cause, programs_cause, program_or, tables_cause, ProgramFault, Parts, first_fault, NetFault, ChannelSpec, Growth, Policy, Instance, Tables, first_network_fault, TextFault, ProgramParts, named_seen, program_seen, NetworkNames, ProcessNames, SharedTables, named_table, names_in, process_names_in, paired, net_fault, TellsCause, program_told}
-use Rattle.std.specs.Prelude.{slice_get, IfSome, IfNone, ◌⊎◌}
+use Rattle.kpn_text.proofs.Common.{◌≡◌, ℕ, zero, suc, ◌+◌, ◌<◌, ◌≤◌, List, [], ◌∷◌, ◌++◌, length, map, get_or, drop, Option, Some, None, Result, Ok, Err, refl, sym, ap, ◌∙◌, subst, append_assoc, append-nil, add-one, arith, length-append, inl, inr, drop-cons, drop_all, Cause, in_network, network_cause, or_cause, programs_cause, program_or, tables_cause, ProgramFault, Parts, first_fault, NetFault, ChannelSpec, Growth, Policy, Instance, NetworkSize, Tables, MakesNetwork, first_network_fault, TextFault, ProgramParts, named_seen, program_seen, NetworkNames, ProcessNames, SharedTables, named_table, names_in, process_names_in, paired, net_fault, TellsCause, program_told}
+use Rattle.std.specs.Prelude.{slice_get, ◌⊎◌}
 use Rattle.std.proofs.lemmas.Option.{slice_get-get_or, get_or_from_slice_get, slice_get_within}
 use Rattle.kpn_lang.specs.declared.program.ProgramFault.TheVariants as rule
 use Rattle.kpn_net.specs.declared.fault.NetFault.TheVariants as net
@@ -174,17 +174,12 @@ made_broken all made rest after p number told m e count (inr tells) =
 
 -- ---- the programs, and then the network
 
-pub made_network : {N : Type 0} (t : Tables) (P : N → Type 0) (n : N) → programs_cause 0 t.programs ≡ None
-    → first_network_fault t ≡ None → P n → (tables_cause t ≡ None) × P n
-made_network t P n e f p =
-    (ap (λ c. or_cause c (network_cause (first_network_fault t))) e ∙ ap network_cause f, p)
-
 -- the fault of the network is that of the tables if each program keeps the rules
-pub network_then : (t : Tables) (fault : NetFault) (told : TextFault) → programs_cause 0 t.programs ≡ None
-    → first_network_fault t ≡ Some fault → told ≡ net_fault fault → TellsCause (tables_cause t) told
-network_then t fault told e f h =
-    let found : tables_cause t ≡ Some (in_network fault) =
-    ap (λ c. or_cause c (network_cause (first_network_fault t))) e ∙ ap network_cause f in
+network_then : (s : NetworkSize) (t : Tables) (fault : NetFault) (told : TextFault) → programs_cause 0 t.programs ≡ None
+    → first_network_fault s t ≡ Some fault → told ≡ net_fault fault → TellsCause (tables_cause s t) told
+network_then s t fault told e f h =
+    let found : tables_cause s t ≡ Some (in_network fault) =
+    ap (λ c. or_cause c (network_cause (first_network_fault s t))) e ∙ ap network_cause f in
     subst (λ c. TellsCause c told) (sym found) h
 
 -- ---- the names of a description
@@ -211,19 +206,7 @@ names_are n tables processes instances channels slice s t e f g =
 
 -- ---- what a network answers
 
-net_made : (f : Option NetFault) (network t : Tables)
-    → IfSome f (λ fault. ◌≡◌ {A = Result Tables NetFault} (Ok network) (Err fault)) → IfNone f (network ≡ t)
-    → (f ≡ None) × (network ≡ t)
-net_made None network t refused made = (refl, made)
-net_made (Some fault) network t refused made = absurd cc
-
-net_broken : (f : Option NetFault) (fault : NetFault)
-    → IfSome f (λ found. ◌≡◌ {A = Result Tables NetFault} (Err fault) (Err found)) → IfNone f (fault ≡ net.NoMemory)
-    → (fault ≡ net.NoMemory) ⊎ (f ≡ Some fault)
-net_broken None fault refused made = inl made
-net_broken (Some found) fault refused made = inr cc
-
-module _ (programs parts : List Parts) (instances : List Instance) (channels : List ChannelSpec) (limit : ℕ)
+module _ (s : NetworkSize) (programs parts : List Parts) (instances : List Instance) (channels : List ChannelSpec) (limit : ℕ)
     (policy : Policy) (growth : Growth) where
   abbrev given : Tables
   given = tables_with programs instances channels limit policy growth
@@ -232,20 +215,18 @@ module _ (programs parts : List Parts) (instances : List Instance) (channels : L
   meant = tables_with parts instances channels limit policy growth
 
   pub network_made : (network : Tables) → programs_cause 0 parts ≡ None → programs ≡ parts
-      → IfSome (first_network_fault given) (λ fault. ◌≡◌ {A = Result Tables NetFault} (Ok network) (Err fault))
-      → IfNone (first_network_fault given) (network ≡ given) → (tables_cause meant ≡ None) × (network ≡ meant)
-  network_made network none e refused made =
+      → MakesNetwork s given (Ok network) → (tables_cause s meant ≡ None) × (network ≡ meant)
+  network_made network none e made =
       let same : given ≡ meant = ap (λ ps. tables_with ps instances channels limit policy growth) e in
-      let h = net_made (first_network_fault given) network given refused made in
-      made_network meant (λ n. n ≡ meant) network none (ap first_network_fault (sym same) ∙ h.0) (h.1 ∙ same)
+      let sound : first_network_fault s meant ≡ None = ap (first_network_fault s) (sym same) ∙ made.0 in
+      (ap (λ c. or_cause c (network_cause (first_network_fault s meant))) none ∙ ap network_cause sound, made.1 ∙ same)
 
   pub network_broken : (fault : NetFault) (told : TextFault) → programs_cause 0 parts ≡ None → programs ≡ parts
-      → IfSome (first_network_fault given) (λ found. ◌≡◌ {A = Result Tables NetFault} (Err fault) (Err found))
-      → IfNone (first_network_fault given) (fault ≡ net.NoMemory) → told ≡ net_fault fault
-      → (told ≡ text.NoMemory) ⊎ TellsCause (tables_cause meant) told
-  network_broken fault told none e refused made h =
+      → MakesNetwork s given (Err fault) → told ≡ net_fault fault
+      → (told ≡ text.NoMemory) ⊎ TellsCause (tables_cause s meant) told
+  network_broken fault told none e broken h =
       let same : given ≡ meant = ap (λ ps. tables_with ps instances channels limit policy growth) e in
-      elim (net_broken (first_network_fault given) fault refused made) [
+      elim broken [
         | inl m ↦ inl (h ∙ ap net_fault m)
-        | inr f ↦ inr (network_then meant fault told none (ap first_network_fault (sym same) ∙ f) h)
+        | inr f ↦ inr (network_then s meant fault told none (ap (first_network_fault s) (sym same) ∙ f) h)
       ]

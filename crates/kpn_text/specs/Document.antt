@@ -1,7 +1,10 @@
 -- Documents: a language, and the tables of a network with the names of its parts.
 use Rattle.std.specs.Prelude.{ℕ, List, [], map, slice_index_or}
+use Rattle.kpn_net.specs.declared.tables.NetworkSize.{NetworkSize}
+use Rattle.kpn_net.specs.declared.tables.NetworkSize.TheVariants.{Usual, Large}
 use Rattle.kpn_net.specs.Tables.{Tables}
 use Rattle.kpn_text_tokens.specs.declared.tokens.Language.{Language}
+use Rattle.kpn_text_tokens.specs.declared.tokens.Language.TheVariants as language
 use Rattle.kpn_text_names.specs.Named.{Named}
 use Rattle.kpn_text_names.specs.Names.{name_at}
 use Rattle.kpn_text_names.specs.NetworkNames.{names_in}
@@ -16,6 +19,11 @@ pub record Document : Type 0 where
   pub language : Language
   pub tables : Tables
   pub names : NetworkNames
+
+-- the size that the network of a description in this language may have
+abbrev pub network_size : Language → NetworkSize
+network_size language.One = Usual
+network_size language.Two = Large
 
 abbrev pub document_with : Language → Tables → NetworkNames → Document
 document_with l tables names = record { language = l; tables = tables; names = names }

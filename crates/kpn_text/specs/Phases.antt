@@ -5,6 +5,7 @@ use Rattle.kpn_lang.specs.declared.program.ProgramFault.{ProgramFault}
 use Rattle.kpn_lang.specs.Parts as lang
 use Rattle.kpn_lang.specs.Parts.{Parts}
 use Rattle.kpn_net.specs.declared.fault.NetFault.{NetFault}
+use Rattle.kpn_net.specs.declared.tables.NetworkSize.{NetworkSize}
 use Rattle.kpn_net.specs.Tables.{Tables}
 use Rattle.kpn_net.specs.Faults as net
 use Rattle.kpn_text_tokens.specs.declared.lexer.LexFault.{LexFault}
@@ -21,7 +22,7 @@ use Rattle.kpn_text_names.specs.Fault.{NameError, unknown, double}
 use Rattle.kpn_text_names.specs.Named.{resolve}
 use Rattle.kpn_text.specs.declared.fault.TextFault.{TextFault}
 use Rattle.kpn_text.specs.declared.fault.TextFault.TheVariants as fault
-use Rattle.kpn_text.specs.Document.{Document, document_named}
+use Rattle.kpn_text.specs.Document.{Document, document_named, network_size}
 use Rattle.kpn_text.specs.Fault.{lex_fault, expand_fault, grammar_fault, net_fault}
 
 -- what a phase finds, without the place of a name in the text
@@ -62,9 +63,9 @@ abbrev pub or_cause : Option Cause → Option Cause → Option Cause
 or_cause (Some cause) after = Some cause
 or_cause None after = after
 
--- the first rule that tables break: the programs in order, then the network
-abbrev pub tables_cause : Tables → Option Cause
-tables_cause t = or_cause (programs_cause 0 t.programs) (network_cause (net.first_network_fault t))
+-- the first rule that the tables of a network of this size break: the programs in order, then the network
+abbrev pub tables_cause : NetworkSize → Tables → Option Cause
+tables_cause s t = or_cause (programs_cause 0 t.programs) (network_cause (net.first_network_fault s t))
 
 -- the tokens that a text of this language stands for
 unfoldable pub meant_in : Language → List ℕ → Result (List Lexeme) Cause
@@ -78,7 +79,7 @@ document_in l text = do
   tokens ← meant_in l text
   tree ← phase in_grammar (description_of l (length text) tokens)
   named ← phase in_names (resolve l tree)
-  unless (tables_cause named.tables) (document_named l named)
+  unless (tables_cause (network_size l) named.tables) (document_named l named)
 
 -- the same in the language that the text is of
 abbrev pub document_of : List ℕ → Result Document Cause

@@ -28,6 +28,7 @@ pub use fault::TextFault;
 pub use kpn_text_items::{ItemFault, WriteFault, read_all, read_items, write_items};
 pub use kpn_text_tokens::Language;
 pub use laws::{names_stand_once, phases_give_what_is_spelled, read_again, spelled_once};
+pub use network::network_size;
 pub use printing::print_network;
 pub use reading::read_network;
 pub use tokens::meant_tokens;

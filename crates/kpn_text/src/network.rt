@@ -5,14 +5,16 @@ ghost use Rattle.kpn_lang.specs.Parts.{first_fault};
 ghost use Rattle.kpn_text_names.specs.Named.{values_of};
 ghost use Rattle.kpn_text_names.specs.Shared.{values_at};
 ghost use Rattle.kpn_text_names.specs.View.{named_seen, program_seen};
+ghost use Rattle.kpn_text.specs.Document.{network_size};
 ghost use Rattle.kpn_text.specs.Phases.{program_or, programs_cause, tables_cause};
 ghost use Rattle.kpn_text.specs.Making.{Makes, program_told};
 
 use crate::fault::TextFault;
 use kpn_lang::{Program, ProgramFault};
 use kpn_limits::MAX_VARIABLES;
-use kpn_net::Network;
+use kpn_net::{Network, NetworkSize};
 use kpn_text_names::{NameScope, Named, ProgramParts, SharedTables};
+use kpn_text_tokens::Language;
 use std::alloc::{AllocError, Global};
 
 /// The values of a shared table.
@@ -96,10 +98,24 @@ fn programs(
     Ok(programs)
 }
 
+/// The size that the network of a description in this language may have.
+pub fn network_size(language: Language) -> NetworkSize
+    ensures { result ≡ network_size language }
+{
+    match language {
+        Language::One => NetworkSize::Usual,
+        Language::Two => NetworkSize::Large,
+    }
+}
+
 /// The network of the tables, or the first rule that they break: of the programs in order, then of the network.
-pub(crate) fn network(alloc: Global, named: Named<'_>) -> Result<Network, TextFault>
+pub(crate) fn network(
+    alloc: Global,
+    language: Language,
+    named: Named<'_>,
+) -> Result<Network, TextFault>
     ensures { let tables = (named_seen named.entry).tables in
-        Makes (λ network. network ≡ tables) result (tables_cause tables) }
+        Makes (λ network. network ≡ tables) result (tables_cause (network_size language) tables) }
 {
     let Named {
         shared,
@@ -114,6 +130,8 @@ pub(crate) fn network(alloc: Global, named: Named<'_>) -> Result<Network, TextFa
         growth,
     } = named;
     let programs = programs(alloc, &shared, processes)?;
-    let network = Network::new(alloc, programs, instances, channels, limit, policy, growth)?;
+    let size = network_size(language);
+    let network =
+        Network::sized(alloc, size, programs, instances, channels, limit, policy, growth)?;
     Ok(network)
 }

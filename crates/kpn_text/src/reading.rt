@@ -26,7 +26,7 @@ fn read_text(alloc: Global, text: &[u8]) -> Result<Document, TextFault>
     let tree = description(alloc, language, tokens.as_slice(), text.len())?;
     let named = resolve(alloc, language, &tree)?;
     let names = names_of(alloc, &named)?;
-    let network = network(alloc, named)?;
+    let network = network(alloc, language, named)?;
     network.known();
     Ok(Document::new(language, network, names))
 }

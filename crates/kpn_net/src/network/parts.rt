@@ -10,9 +10,9 @@ ghost use Rattle.kpn_net.specs.View.{tables_of};
 
 use crate::fault::NetFault;
 use crate::network::sides::{self, Side};
-use crate::tables::{ChannelSpec, End, Growth, Instance, Policy};
+use crate::tables::{ChannelSpec, End, Growth, Instance, NetworkSize, Policy};
 use kpn_lang::Program;
-use kpn_limits::{MAX_CAPACITY, MAX_CHANNELS, MAX_PROCESSES};
+use kpn_limits::{MAX_CAPACITY, MAX_PROCESSES};
 
 /// The programs, the instances, the channels, the limit of each capacity, and how channels grow.
 #[derive(Drop)]
@@ -64,10 +64,10 @@ fn names_past(channels: usize, ports: &[usize]) -> bool
 
 impl NetworkParts {
     /// The first rule that the instances break.
-    pub fn instances_fault(&self) -> Option<NetFault>
-        ensures { result ≡ instances_fault (tables_of self.now) }
+    pub fn instances_fault(&self, size: NetworkSize) -> Option<NetFault>
+        ensures { result ≡ instances_fault size (tables_of self.now) }
     {
-        if self.is_too_large() {
+        if self.is_above(size) {
             return Some(NetFault::TooMany);
         }
         if let Some(instance) = self.first_without_program() {
@@ -108,12 +108,12 @@ impl NetworkParts {
         None
     }
 
-    fn is_too_large(&self) -> bool
-        ensures { result ≡ has_too_many (tables_of self.now) }
+    fn is_above(&self, size: NetworkSize) -> bool
+        ensures { result ≡ has_too_many size (tables_of self.now) }
     {
         self.programs.len() > MAX_PROCESSES
-            || self.instances.len() > MAX_PROCESSES
-            || self.channels.len() > MAX_CHANNELS
+            || self.instances.len() > size.processes()
+            || self.channels.len() > size.channels()
     }
 
     fn first_without_program(&self) -> Option<usize>

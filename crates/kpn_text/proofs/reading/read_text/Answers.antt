@@ -1,5 +1,6 @@
 -- Phase by phase, in the language that the text tells.
-use Rattle.kpn_text.proofs.Common.{inl, sym, subst, err_from_is_err_and, named_seen, Document, TokensFail, SpellsDocument}
+use Rattle.kpn_text.proofs.Common.{◌≡◌, ◌⊎◌, inl, sym, subst, err_from_is_err_and, named_seen, Document, network_size, TokensFail, SpellsDocument, TellsCause, tables_cause}
+use Rattle.kpn_text.specs.declared.fault.TextFault.TheVariants as text
 use Rattle.kpn_text_grammar.specs.View as grammar
 use Rattle.kpn_text.proofs.Refusals.{made_spelled, names_refused, network_refused, phases, tokens_refused, tree_refused}
 use Rattle.kpn_text.proofs.reading.read_text.Goals as goal
@@ -44,7 +45,9 @@ returns-in_err-network c =
     rw (p.1, p.2) (network_refused c.args.text.now c.in_ok-tokens.tokens tree n c.in_err-network.field-0.0
     (phases c.args.text.now c.language_of-language.result told c.in_ok-tokens.tokens c.as_slice.result.now tree n
     c.in_ok-tokens.ensures c.as_slice.ensures c.in_ok-tree.ensures.exact c.in_ok-named.ensures.exact)
-    c.in_err-network.ensures)
+    (subst
+    (λ l. (c.in_err-network.field-0.0 ≡ text.NoMemory) ⊎ TellsCause (tables_cause (network_size l) n.tables) c.in_err-network.field-0.0)
+    told c.in_err-network.ensures))
 
 pub new-requires : goal.new-requires
 new-requires c =
@@ -57,7 +60,7 @@ new-requires c =
           (phases c.args.text.now c.language_of-language.result told c.in_ok-tokens.tokens
           c.as_slice.result.now tree n c.in_ok-tokens.ensures c.as_slice.ensures c.in_ok-tree.ensures.exact
           c.in_ok-named.ensures.exact)
-          told c.in_ok-network.ensures.1 c.in_ok-names.ensures c.known.ensures,
+          told c.in_ok-network.ensures.1 c.in_ok-names.ensures c.known.ensures c.in_ok-network.ensures.0,
     )
 
 pub returns : goal.returns
@@ -70,4 +73,4 @@ returns c =
     c.in_ok-network.network c.in_ok-names.names
     (phases c.args.text.now c.language_of-language.result told c.in_ok-tokens.tokens c.as_slice.result.now tree n
     c.in_ok-tokens.ensures c.as_slice.ensures c.in_ok-tree.ensures.exact c.in_ok-named.ensures.exact)
-    told c.in_ok-network.ensures.1 c.in_ok-names.ensures c.known.ensures)
+    told c.in_ok-network.ensures.1 c.in_ok-names.ensures c.known.ensures c.in_ok-network.ensures.0)
