@@ -5,7 +5,7 @@ use crate::worked::{idle, instance};
 use kpn_lang::Program;
 use kpn_limits::MAX_CAPACITY;
 use kpn_net::ChannelSpec::{Inner, Sink, Source};
-use kpn_net::{ChannelSpec, End, Growth, Instance, NetFault, Network, Policy, same};
+use kpn_net::{ChannelSpec, End, Growth, Instance, NetFault, Network, NetworkSize, Policy, same};
 use kpn_text::read_network;
 use std::alloc::{AllocError, Global};
 use std::process::Abort;
@@ -149,7 +149,7 @@ fn refuses_the_first_fault(rt: HostRuntime) -> Result<(), Fail> {
 fn ring(alloc: Global, processes: usize) -> Result<(Vec<Instance>, Vec<ChannelSpec>), AllocError> {
     let mut instances = Vec::new(alloc);
     let mut channels = Vec::new(alloc);
-    for p in 0..processes.min(1000) {
+    for p in 0..processes.min(10_000) {
         let ins = [4 * p, 4 * p + 1, 4 * p + 2, 4 * p + 3];
         let next = if p + 1 == processes { 0 } else { 4 * (p + 1) };
         instances.push(instance(alloc, 0, &ins, &[next, next + 1, next + 2, next + 3], &[])?)?;
@@ -160,24 +160,41 @@ fn ring(alloc: Global, processes: usize) -> Result<(Vec<Instance>, Vec<ChannelSp
     Ok((instances, channels))
 }
 
-// Why such a ring is refused, or `None`.
-fn ring_refusal(alloc: Global, processes: usize, limit: u32) -> Result<Option<NetFault>, Fail> {
+// Why such a ring is refused as a network of this size, by `Network::new` if there is none; or `None`.
+fn ring_refusal(
+    alloc: Global,
+    size: Option<NetworkSize>,
+    processes: usize,
+    limit: u32,
+) -> Result<Option<NetFault>, Fail> {
     let (instances, channels) = ring(alloc, processes)?;
     let mut programs = Vec::new(alloc);
     programs.push(idle(alloc, 4, 4)?)?;
     let (policy, growth) = (Policy::Cycles, Growth::One);
-    Ok(Network::new(alloc, programs, instances, channels, limit, policy, growth).err())
+    let made = match size {
+        None => Network::new(alloc, programs, instances, channels, limit, policy, growth),
+        Some(size) => {
+            Network::sized(alloc, size, programs, instances, channels, limit, policy, growth)
+        }
+    };
+    Ok(made.err())
 }
 
 #[test]
 fn takes_networks_at_the_limits(rt: HostRuntime) -> Result<(), Fail> {
-    for (processes, limit, wanted) in [
-        (256, 1_048_576, None),
-        (257, 1_048_576, Some(NetFault::TooMany)),
-        (256, 1_048_577, Some(NetFault::Capacity(1024))),
-        (256, 0, Some(NetFault::Capacity(1024))),
+    let (usual, large) = (Some(NetworkSize::Usual), Some(NetworkSize::Large));
+    for (size, processes, limit, wanted) in [
+        (None, 256, 1_048_576, None),
+        (None, 257, 1_048_576, Some(NetFault::TooMany)),
+        (None, 256, 1_048_577, Some(NetFault::Capacity(1024))),
+        (None, 256, 0, Some(NetFault::Capacity(1024))),
+        (usual, 256, 1_048_576, None),
+        (usual, 257, 1_048_576, Some(NetFault::TooMany)),
+        (large, 4096, 1_048_576, None),
+        (large, 4097, 1_048_576, Some(NetFault::TooMany)),
+        (large, 4096, 0, Some(NetFault::Capacity(16_384))),
     ] {
-        let found = ring_refusal(rt.alloc(), processes, limit)?;
+        let found = ring_refusal(rt.alloc(), size, processes, limit)?;
         assert!(rt; found == wanted, "{processes} processes, limit {limit}");
     }
     Ok(())
