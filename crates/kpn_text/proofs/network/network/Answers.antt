@@ -12,7 +12,7 @@ returns-in_err-network c =
     c.args.named.instances.items
     c.args.named.channels.items c.args.named.limit c.args.named.policy c.args.named.growth
     c.in_err-network.field-0.0 p.0 c.in_ok-programs.ensures.0 c.in_ok-programs.ensures.1
-    (rw c.network_size.ensures at c.in_err-network.ensures) p.2)
+    (rw c.network_size-size.ensures at c.in_err-network.ensures) p.2)
 
 pub returns : goal.returns
 returns c =
@@ -20,4 +20,4 @@ returns c =
     (map (λ q. q.parts) (map (program_seen c.args.named.shared) c.args.named.programs.items))
     c.args.named.instances.items c.args.named.channels.items c.args.named.limit c.args.named.policy c.args.named.growth
     c.in_ok-network.network c.in_ok-programs.ensures.0 c.in_ok-programs.ensures.1
-    (rw c.network_size.ensures at c.in_ok-network.ensures)
+    (rw c.network_size-size.ensures at c.in_ok-network.ensures)
