@@ -5,6 +5,13 @@ use crate::tuning::{BY_TURNS_NANOSECONDS, NARROW_NANOSECONDS, WIDE_NANOSECONDS};
 use kpn_net::{End, Network};
 use std::alloc::{AllocError, Allocator};
 
+/// A process, and the region that it is in.
+#[derive(Clone, Copy)]
+struct Member {
+    region: usize,
+    process: usize,
+}
+
 /// Regions, of which each process is in one.
 #[derive(Drop)]
 pub(crate) struct Regions<A: Allocator> {
@@ -33,22 +40,34 @@ impl<A: Allocator + Copy> Regions<A> {
         // for one worker no cut is better than none
         let at_once = if is_whole { 1 } else { workers };
         match Cut::best(alloc, &in_regions, &flows, at_once, by_turns)? {
-            Some(cut) => Ok(Some(Regions::of(alloc, cut.regions())?)),
+            Some(cut) => {
+                let regions = cut.regions(alloc)?;
+                Ok(Some(Regions::of(alloc, &regions)?))
+            }
             None => Ok(None),
         }
     }
 
     /// The regions of a cut.
     fn of(alloc: A, region_of: &[usize]) -> Result<Self, AllocError> {
-        let count = region_of.len();
-        let mut processes = Vec::with_capacity(alloc, count)?;
+        let mut members = Vec::with_capacity(alloc, region_of.len())?;
+        for p in 0..region_of.len() {
+            members.push(Member {
+                region: region_of[p],
+                process: p,
+            })?;
+        }
+        members.sort_by_key(|it: &Member| it.region)?;
+        let mut processes = Vec::with_capacity(alloc, members.len())?;
         let mut ends = Vec::new(alloc);
-        for region in 0..count {
-            let before = processes.len();
-            push_members(region_of, region, &mut processes)?;
-            if processes.len() > before {
-                ends.push(processes.len())?;
+        for k in 0..members.len() {
+            if k > 0 && members[k - 1].region != members[k].region {
+                ends.push(k)?;
             }
+            processes.push(members[k].process)?;
+        }
+        if !processes.is_empty() {
+            ends.push(processes.len())?;
         }
         Ok(Regions { processes, ends })
     }
@@ -71,20 +90,6 @@ impl<A: Allocator> Regions<A> {
         };
         self.processes.get(begin..*end).unwrap_or(&[])
     }
-}
-
-/// Puts the processes of a region after these.
-fn push_members<A: Allocator>(
-    region_of: &[usize],
-    region: usize,
-    processes: &mut Vec<usize, A>,
-) -> Result<(), AllocError> {
-    for p in 0..region_of.len() {
-        if region_of[p] == region {
-            processes.push(p)?;
-        }
-    }
-    Ok(())
 }
 
 /// The channels between two processes, those with the most hand-overs first.
@@ -119,10 +124,10 @@ impl Times<'_> {
         sum(self.taken) / sum(self.turns).max(1)
     }
 
-    /// How long those of a process take; as in the mean of all, if no turn of its own was timed.
-    fn turn(&self, p: usize) -> u64 {
+    /// How long those of a process take; as in the mean of all, which is this, if no turn of its own was timed.
+    fn turn(&self, p: usize, mean: u64) -> u64 {
         match number_at(self.turns, p) {
-            0 => self.mean(),
+            0 => mean,
             count => number_at(self.taken, p) / count,
         }
     }
@@ -175,13 +180,14 @@ fn loads<A: Allocator + Copy>(
     way: Way,
 ) -> Result<Vec<u64, A>, AllocError> {
     network.known();
+    let mean = times.mean();
     let mut loads = vec![in alloc; 0_u64; network.instances()]?;
     for c in 0..network.channels() {
         let items = number_at(carried, c);
         let nanos = way.nanos(is_wide(network.cap_of(c)), network.is_sink(c));
         for end in [network.writer_of(c), network.reader_of(c)] {
             if let End::Process(p) = end {
-                let each = times.turn(p).saturating_add(nanos);
+                let each = times.turn(p, mean).saturating_add(nanos);
                 add_to(&mut loads, p, items.saturating_mul(each));
             }
         }
