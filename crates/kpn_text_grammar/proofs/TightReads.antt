@@ -306,6 +306,15 @@ module _ (s : Scope) (e k depth d : ℕ) (laws : ReadsTight s depth) where
       (λ x z more is may. closes (token.Mark mark_.RightParen) more (at_close more))))
       (λ x z more is may. closes (token.Mark mark_.Comma) z.0.1 (at_comma z.0.1)))
 
+  abbrev made_of_pair : Op → NameBytes → Pair ⊎ Unit {0} → ExpressionNode
+  made_of_pair o x = either (λ (z : Pair). binary o z.0.0 z.1.0.0) (λ (u : Unit {0}). variable x)
+
+  abbrev pair_tokens : Pair ⊎ Unit {0} → List Token → List Token
+  pair_tokens = spell_either (λ (z : Pair) more. token.Mark mark_.LeftParen ∷ z.0.1) (λ (u : Unit {0}) more. more)
+
+  abbrev PairIf : Pair ⊎ Unit {0} → List Token → Type 0
+  PairIf = Either PairOf (λ (u : Unit {0}) more. Unit {0})
+
   called_row : (x : NameBytes) (found : Option Op)
       → Row {Z = Called} s.end Enough (made_by x) called_tokens (CalledOf found) (Unless (is_mark mark_.LeftParen))
       (call_or_name (lower s) (tight (lower s) e k least) x found) (call_or_name s (tight s depth d least) x found)
@@ -321,22 +330,13 @@ module _ (s : Scope) (e k depth d : ℕ) (laws : ReadsTight s depth) where
   called_row x (Some o) =
       recast (optional (is_mark mark_.LeftParen) (variable x) (call_row o) (λ more may. (tt, may)) (λ z more is. refl))
       there back where
-        abbrev made : Pair ⊎ Unit {0} → ExpressionNode
-        made = either (λ (z : Pair). binary o z.0.0 z.1.0.0) (λ (u : Unit {0}). variable x)
-
-        abbrev tokens : Pair ⊎ Unit {0} → List Token → List Token
-        tokens = spell_either (λ (z : Pair) more. token.Mark mark_.LeftParen ∷ z.0.1) (λ (u : Unit {0}) more. more)
-
-        abbrev Within : Pair ⊎ Unit {0} → List Token → Type 0
-        Within = Either PairOf (λ (u : Unit {0}) more. Unit {0})
-
-        there : (z : Pair ⊎ Unit {0}) (more : List Token) → Within z more
-            → As made tokens (made_by x) called_tokens (CalledOf (Some o)) z more
+        there : (z : Pair ⊎ Unit {0}) (more : List Token) → PairIf z more
+            → As (made_of_pair o x) pair_tokens (made_by x) called_tokens (CalledOf (Some o)) z more
         there (inl z) more is = (inl (o, z), refl, (refl, is), refl)
         there (inr u) more is = (inr u, refl, tt, refl)
 
         back : (w : Called) (more : List Token) → CalledOf (Some o) w more
-            → As (made_by x) called_tokens made tokens Within w more
+            → As (made_by x) called_tokens (made_of_pair o x) pair_tokens PairIf w more
         back (inl z) more is =
             let same : o ≡ z.0 = cc in
             (inl z.1, ap (λ (p : Op). binary p z.1.0.0 z.1.1.0.0) same, is.1, refl)
