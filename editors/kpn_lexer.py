@@ -25,6 +25,7 @@ class KpnLexer(RegexLexer):
             (r'(policy|grow)([ \t]+)(cycles|all|one|double)\b', bygroups(Keyword, Whitespace, Keyword.Constant)),
             (words(SETTINGS, suffix=r'\b'), Keyword),
             (words(STATEMENTS, suffix=r'\b'), Keyword.Reserved),
+            (r'(?:min|max)(?=[ \t]*\()', Name.Function),
             (r'[A-Za-z_]\w{32,}', Error),
             (r'[A-Za-z_]\w*', Name),
             (r'\d{20,}', Error),

@@ -55,6 +55,10 @@ BITS = {
     '|': lambda a, b: str(a | b),
     '^': lambda a, b: str(a ^ b),
 }
+CALLED = {
+    'min': lambda a, b: str(min(a, b)),
+    'max': lambda a, b: str(max(a, b)),
+}
 SHIFTS = {
     '<<': lambda a, b: in_range(a << b) if 0 <= b < 64 else 'shift',
     '>>': lambda a, b: str(a >> b) if 0 <= b < 64 else 'shift',
@@ -67,7 +71,7 @@ def rows():
         yield f'- {a}', in_range(-a)
         yield f'! {a}', str(int(a == 0))
         for b in OPERANDS:
-            for spelling, give in OPERATORS.items():
+            for spelling, give in (OPERATORS | CALLED).items():
                 yield f'{a} {spelling} {b}', give(a, b)
     for a in OPERANDS + PATTERNS:
         yield f'~ {a}', str(~a)

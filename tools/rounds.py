@@ -20,6 +20,8 @@ ROWS = (('||',), ('&&',), ('<', '<=', '>', '>=', '==', '!='), ('|',), ('^',), ('
 TIGHTNESS = {mark: number for number, row in enumerate(ROWS, 1) for mark in row}
 # What `x += e;`, `a[i] += e;` and the like compute.
 COMPOUND = {f'{mark}=': mark for mark in ('+', '-', '*', '/', '%', '&', '|', '^', '<<', '>>')}
+# The operators that are called.
+CALLED = frozenset(('min', 'max'))
 DIGITS, ESCAPED = frozenset("0123456789'"), {'n': 10, '\\': 92, "'": 39, '0': 0}
 COMPARING, SHIFTING, OPERAND = TIGHTNESS['<'], TIGHTNESS['<<'], len(ROWS) + 1
 
@@ -238,6 +240,12 @@ class Parser:
             return found
         if token[0] in DIGITS:
             return number(token)
+        if self.language == 2 and token in CALLED and self.took('('):
+            left = self.expression()
+            self.next(',')
+            right = self.expression()
+            self.next(')')
+            return token, left, right
         return ('[]', token, self.index()) if self.took('[') else token
 
     def network(self):
@@ -346,6 +354,8 @@ MARKS = {
     '^': operator.xor,
     '<<': shifted(operator.lshift),
     '>>': shifted(operator.rshift),
+    'min': min,
+    'max': max,
 }
 
 

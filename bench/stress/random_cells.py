@@ -1,6 +1,7 @@
 """Random networks of language 2 whose processes have arrays and tables, constants and shorter forms. Most indices are
 right."""
 OPERATORS = ('+', '-', '*', '/', '%', '&', '|', '^', '<<', '>>', '<', '<=', '==', '&&', '||')
+CALLED = ('min', 'max')
 COMPOUND = ('+=', '-=', '*=', '/=', '%=', '&=', '|=', '^=', '<<=', '>>=')
 TABLE = 'table t = 3, LESS, 4, -1, 5;\n'
 SIZES = {'a': 4, 'b': 3, 't': 5, 'u': 2}
@@ -37,7 +38,9 @@ def expression(chance, known, cells, depth=3):
         return chance.choice('-!~') + f'({parts[0]})'
     if kind < 0.66:
         return f'({parts[0]} ? {parts[1]} : {parts[2]})'
-    mark = chance.choice(OPERATORS)
+    mark = chance.choice(OPERATORS + CALLED)
+    if mark in CALLED:
+        return f'{mark}({parts[0]}, {parts[1]})'
     if mark in ('/', '%', '<<', '>>') and chance.random() < 0.9:
         parts[1] = str(chance.choice((1, 2, 3)))
     return f'(({parts[0]}) {mark} ({parts[1]}))'
@@ -45,7 +48,7 @@ def expression(chance, known, cells, depth=3):
 
 def statements(chance, cells, arrays):
     """What a process does between its read and its write."""
-    known, found = ['x', 'y', 'k'], ['y = y & 1023;']
+    known, found = ['x', 'y', 'k', 'max'], ['y = y & 1023;', 'max = x + 1;']
     for _ in range(chance.randrange(1, 5)):
         value = expression(chance, known, cells)
         if arrays and chance.random() < 0.6:

@@ -50,7 +50,7 @@ OPERATIONS: Dict[Tuple[str, int], Callable[..., int]] = {
     ('%', 2): lambda a, b: a - divided(a, b) * b, ('<', 2): operator.lt, ('<=', 2): operator.le,
     ('>', 2): operator.gt, ('>=', 2): operator.ge, ('==', 2): operator.eq, ('!=', 2): operator.ne,
     ('&', 2): operator.and_, ('|', 2): operator.or_, ('^', 2): operator.xor, ('<<', 2): operator.lshift,
-    ('>>', 2): operator.rshift}
+    ('>>', 2): operator.rshift, ('min', 2): min, ('max', 2): max}
 
 
 def word_of(mark: str, operands: List[int]) -> str:

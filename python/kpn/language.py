@@ -32,6 +32,8 @@ ROWS = (('||',), ('&&',), ('<', '<=', '>', '>=', '==', '!='), ('|',), ('^',), ('
 TIGHTNESS = {mark: number for number, row in enumerate(ROWS, 1) for mark in row}
 COMPARING, SHIFTING, OPERAND = TIGHTNESS['<'], TIGHTNESS['<<'], len(ROWS) + 1
 OPERATORS_OF_ONE = frozenset(TIGHTNESS) - frozenset('& | ^ << >>'.split())
+# The operators of language 2 that are called: min(a, b).
+CALLED = frozenset(('min', 'max'))
 # The mark of a cell in a tree.
 INDEX = '[]'
 # What the canonical form leaves out where it can.
@@ -211,6 +213,8 @@ def text_of(tree: Expression, language: int, least: int = 1) -> str:
         return mark + text_of(parts[0], language, OPERAND)
     if mark == '?':
         return '({} ? {} : {})'.format(*(text_of(it, language) for it in parts))
+    if mark in CALLED:
+        return f'{mark}({text_of(parts[0], language)}, {text_of(parts[1], language)})'
     left, right = (text_of(it, language, side) for it, side in zip(parts, sides_of(mark)))
     is_free = language == 2 and TIGHTNESS[mark] >= least
     return f'{left} {mark} {right}' if is_free else f'({left} {mark} {right})'
@@ -482,14 +486,25 @@ class Reader:
         return found
 
     def element(self, around: int) -> Tuple[Expression, int]:
-        """Reads a name, with an index if it has one, and gives the tree and its levels."""
+        """Reads a name, with an index if it has one, or a call, and gives the tree and its levels."""
         name = self.name()
+        if self.language == 2 and name in CALLED and self.peek() == '(':
+            return self.call(name, around + 1)
         if self.language == 1 or self.peek() != '[':
             return name, 1
         self.place += 1
         index, levels = self.operation(around + 1, 1)
         self.need(']')
         return (INDEX, name, index), levels + 1
+
+    def call(self, name: str, around: int) -> Tuple[Expression, int]:
+        """Reads both sides of an operator that is called, after its name, and gives the tree and its levels."""
+        self.need('(')
+        left, levels = self.operation(around, 1)
+        self.need(',')
+        right, others = self.operation(around, 1)
+        self.need(')')
+        return (name, left, right), 1 + max(levels, others)
 
     def within(self, around: int) -> Tuple[Expression, int]:
         """Reads what stands in parentheses, and gives its tree and its levels."""

@@ -28,6 +28,8 @@ fn operator(word: &str) -> Option<Op> {
         "^" => Some(Op::BitXor),
         "<<" => Some(Op::Shl),
         ">>" => Some(Op::Shr),
+        "min" => Some(Op::Min),
+        "max" => Some(Op::Max),
         _ => None,
     }
 }

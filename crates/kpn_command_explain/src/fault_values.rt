@@ -2,7 +2,7 @@
 
 use crate::fault_frame::FaultFrame;
 use itoa::Buffer;
-use kpn_text_grammar::{Expression, Identifier, mark_of};
+use kpn_text_grammar::{Expression, Identifier, mark_of, name_of};
 use std::alloc::{AllocError, Global};
 
 /// Adds an expression. One with an operator that stands in another one has parentheses.
@@ -32,15 +32,25 @@ pub(crate) fn push_expression(
             out.push(b'~')?;
             push_expression(out, inner, true)
         }
-        Expression::Binary(operator, left, right) => {
-            push_if(out, is_inner, b'(')?;
-            push_expression(out, left, true)?;
-            out.push(b' ')?;
-            out.extend_from_slice(mark_of(*operator).spelling())?;
-            out.push(b' ')?;
-            push_expression(out, right, true)?;
-            push_if(out, is_inner, b')')
-        }
+        Expression::Binary(operator, left, right) => match name_of(*operator) {
+            Some(called) => {
+                out.extend_from_slice(called)?;
+                out.push(b'(')?;
+                push_expression(out, left, false)?;
+                out.extend_from_slice(b", ")?;
+                push_expression(out, right, false)?;
+                push_if(out, true, b')')
+            }
+            None => {
+                push_if(out, is_inner, b'(')?;
+                push_expression(out, left, true)?;
+                out.push(b' ')?;
+                out.extend_from_slice(mark_of(*operator).spelling())?;
+                out.push(b' ')?;
+                push_expression(out, right, true)?;
+                push_if(out, is_inner, b')')
+            }
+        },
         Expression::Choice(test, first, second) => {
             out.push(b'(')?;
             push_expression(out, test, true)?;

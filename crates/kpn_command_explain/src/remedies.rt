@@ -28,7 +28,7 @@ fn without_parentheses(habit: Habit) -> &'static [u8] {
         Habit::Fraction => b"Numbers are whole: scale them first, or divide, as in `x / 2`.",
         Habit::Stars => b"There is no `**`: a power is a product, as in `x * x`.",
         Habit::Calls =>
-            b"There are no functions: `(x < 0 ? -x : x)` is abs(x), and `(x < y ? x : y)` is min(x, y).",
+            b"The only functions are `min(x, y)` and `max(x, y)`: `max(x, -x)` is abs(x).",
         Habit::Constant =>
             b"Declare it after `;`, `{` or `}`, from numbers and constants: `const n = 5;`.",
         other => usual(other),

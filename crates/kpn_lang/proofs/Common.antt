@@ -34,7 +34,7 @@ pub use Rattle.kpn_lang.specs.View.{blocks_of, parts_of, parts_with_cells, state
 pub use Rattle.kpn_lang.specs.declared.code.Round.{Round}
 pub use Rattle.kpn_lang.specs.declared.codes.Coded.{Coded}
 pub use Rattle.kpn_lang.specs.declared.program.ProgramFault.TheVariants.{BlockOrder, NoMemory, NoSuchBlock, NoSuchPort, NoSuchVar, TooDeep, TooMany}
-pub use Rattle.kpn_lang.specs.declared.syntax.Op.TheVariants.{Add, And, BitAnd, BitOr, BitXor, Div, Eq, Ge, Gt, Le, Lt, Mul, Ne, Or, Rem, Shl, Shr, Sub}
+pub use Rattle.kpn_lang.specs.declared.syntax.Op.TheVariants.{Add, And, BitAnd, BitOr, BitXor, Div, Eq, Ge, Gt, Le, Lt, Max, Min, Mul, Ne, Or, Rem, Shl, Shr, Sub}
 pub use Rattle.kpn_lang.specs.declared.syntax.Stmt.{Stmt}
 pub use Rattle.kpn_lang.specs.declared.talk.Ending.{Ending}
 pub use Rattle.kpn_lang.specs.declared.talk.Ending.TheVariants.{Cut, Done, Faulted, Starved}

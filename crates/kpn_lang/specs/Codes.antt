@@ -6,7 +6,7 @@ use base.Stored.{Gv, gnil, gnum, gcons}
 use mathlib.Core.Path.{sym, ◌∙◌, ap}
 use mathlib.Core.Logic.{inl, inr}
 use Rattle.kpn_lang.specs.declared.syntax.Op.{Op}
-use Rattle.kpn_lang.specs.declared.syntax.Op.TheVariants.{Add, Sub, Mul, Div, Rem, Lt, Le, Gt, Ge, Eq, Ne, And, Or, BitAnd, BitOr, BitXor, Shl, Shr}
+use Rattle.kpn_lang.specs.declared.syntax.Op.TheVariants.{Add, Sub, Mul, Div, Rem, Lt, Le, Gt, Ge, Eq, Ne, And, Or, BitAnd, BitOr, BitXor, Shl, Shr, Min, Max}
 use Rattle.kpn_lang.specs.Syntax.{Term, Num, Var, Neg, Not, BitNot, Bin, Choice, Cell, Statement, Assign, Read, Write, If, While, Set}
 use Rattle.kpn_lang.specs.Parts.{Parts}
 
@@ -14,7 +14,8 @@ use Rattle.kpn_lang.specs.Parts.{Parts}
 
 abbrev operators : List Op
 operators =
-    Add ∷ Sub ∷ Mul ∷ Div ∷ Rem ∷ Lt ∷ Le ∷ Gt ∷ Ge ∷ Eq ∷ Ne ∷ And ∷ Or ∷ BitAnd ∷ BitOr ∷ BitXor ∷ Shl ∷ Shr ∷ []
+    Add ∷ Sub ∷ Mul ∷ Div ∷ Rem ∷ Lt ∷ Le ∷ Gt ∷ Ge ∷ Eq ∷ Ne ∷ And ∷ Or ∷ BitAnd ∷ BitOr ∷ BitXor ∷ Shl ∷ Shr
+    ∷ Min ∷ Max ∷ []
 
 abbrev place_of : Op → ℕ
 place_of Add = 0
@@ -35,6 +36,8 @@ place_of BitOr = 14
 place_of BitXor = 15
 place_of Shl = 16
 place_of Shr = 17
+place_of Min = 18
+place_of Max = 19
 
 abbrev operator_at : ℕ → Op
 operator_at n = slice_index_or operators n Or
@@ -58,6 +61,8 @@ operator_at-place_of BitOr = refl
 operator_at-place_of BitXor = refl
 operator_at-place_of Shl = refl
 operator_at-place_of Shr = refl
+operator_at-place_of Min = refl
+operator_at-place_of Max = refl
 
 -- ---- terms: each is stored as a kind, a number and three trees
 

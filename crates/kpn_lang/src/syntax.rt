@@ -22,6 +22,10 @@ pub enum Op {
     BitXor,
     Shl,
     Shr,
+    /// The smaller side.
+    Min,
+    /// The larger side.
+    Max,
 }
 
 /// An expression over the variables and the cells of a process, which it names by number.

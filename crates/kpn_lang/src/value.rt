@@ -149,6 +149,8 @@ pub(crate) fn apply(op: Op, left: i64, right: i64) -> Result<i64, Fault>
         Op::BitXor => Ok(left ^ right),
         Op::Shl => shifted_left(left, right),
         Op::Shr => shifted_right(left, right),
+        Op::Min => Ok(left.min(right)),
+        Op::Max => Ok(left.max(right)),
     }
 }
 

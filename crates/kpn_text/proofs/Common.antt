@@ -27,9 +27,9 @@ pub use Rattle.kpn_net.specs.declared.tables.Instance.{Instance}
 pub use Rattle.kpn_net.specs.declared.tables.NetworkSize.{NetworkSize}
 pub use Rattle.kpn_net.specs.declared.tables.Policy.{Policy}
 pub use Rattle.kpn_text_expand.specs.Expanding.{expanded}
-pub use Rattle.kpn_text_grammar.specs.Operators.{LOOSEST, OPERAND, left_side, operator_mark, right_side, tightness}
+pub use Rattle.kpn_text_grammar.specs.Operators.{LOOSEST, OPERAND, left_side, operator_mark, operator_name, right_side, tightness}
 pub use Rattle.kpn_text_grammar.specs.Reading.{description_of}
-pub use Rattle.kpn_text_grammar.specs.Spelling.{DeclarationIsWithin, IsDescription, IsWithinLimits, ProcessIsWithin, TableIsWithin, kinds, spell_all, spell_call, spell_declaration, spell_description, spell_else, spell_expression, spell_further, spell_growth, spell_item, spell_language, spell_later_part, spell_limit, spell_list, spell_literal, spell_name, spell_names, spell_network, spell_part, spell_parts, spell_policy, spell_process, spell_statement, spell_statements, spell_table, spell_term, spell_tight, spell_values}
+pub use Rattle.kpn_text_grammar.specs.Spelling.{DeclarationIsWithin, IsDescription, IsWithinLimits, ProcessIsWithin, TableIsWithin, by_name, kinds, spell_all, spell_call, spell_declaration, spell_description, spell_else, spell_expression, spell_further, spell_growth, spell_item, spell_language, spell_later_part, spell_limit, spell_list, spell_literal, spell_name, spell_names, spell_network, spell_part, spell_parts, spell_policy, spell_process, spell_statement, spell_statements, spell_table, spell_term, spell_tight, spell_values}
 pub use Rattle.kpn_text_grammar.specs.Syntax.{Declaration, Description, ExpressionNode, InstanceNode, Item, Literal, NameBytes, NetworkNode, ProcessNode, StatementNode, Statements, Table, array, assign, binary, channel, choice, complement, conditional, element, instance, literal_value, loop, minus, negated, negation, no_statements, numeral, plain, receive, send, sink, source, statement, store, table, variable}
 pub use Rattle.kpn_text_grammar.specs.declared.fault.GrammarFault.{GrammarFault}
 pub use Rattle.kpn_text_names.proofs.Chains.{bind_assoc, ok_is, same_after, then_ok, went}
@@ -75,7 +75,7 @@ pub use Rattle.kpn_text.specs.Fault.{expand_fault, grammar_fault, lex_fault, nam
 pub use Rattle.kpn_text.specs.Making.{TellsCause, TextReads, TokensFail, program_told}
 pub use Rattle.kpn_text.specs.Named.{array_named, call_named, channel_named, declarations_named, description_named, growth_named, instance_named, limit_named, literal_named, network_named, number_named, policy_named, process_named, row_name, row_name_or, statements_named, table_named, tables_named, term_named}
 pub use Rattle.kpn_text.specs.Phases.{Cause, Refuses, TellsWhatIsFound, document_of, in_grammar, in_names, in_network, meant_in, network_cause, or_cause, program_or, programs_cause, tables_cause, unless}
-pub use Rattle.kpn_text.specs.Proper.{AreNames, AreProper, HasBrackets, IsProper, IsProperDeclaration, IsProperInstance, IsProperItem, IsProperLimit, IsProperLiteral, IsProperNetwork, IsProperProcess, IsProperStatement, IsProperTable, IsProperTerm}
+pub use Rattle.kpn_text.specs.Proper.{AreNames, AreProper, HasBrackets, HasOperator, IsProper, IsProperDeclaration, IsProperInstance, IsProperItem, IsProperLimit, IsProperLiteral, IsProperNetwork, IsProperProcess, IsProperStatement, IsProperTable, IsProperTerm, is_called, stands_between}
 pub use Rattle.kpn_text.specs.Spells.{IsOfSomeText, SpellsDocument}
 pub use Rattle.kpn_text.specs.Text.{all_text, call_text, close_text, declaration_text, description_text, else_text, further_text, growth_text, indented, language_text, limit_text, list_text, literal_text, name_text, names_text, needs_no_parentheses, network_item_text, network_text, open_text, otherwise_text, outs_text, part_text, parts_text, policy_text, process_text, statement_text, statements_text, table_text, term_text, unindented_text, values_text, whole_text}
 pub use Rattle.kpn_text.specs.Writing.{Writes}

@@ -1,5 +1,5 @@
 -- What was read from a text is proper: each name is a name, and each number is in range.
-use Rattle.kpn_text.proofs.Common.{◌≡◌, ℕ, ◌<◌, ◌^◌, true, List, [], ◌∷◌, length, Option, Some, None, Ok, subst, arith, AllByRecursion, Growth, Policy, MAX_LEVELS, Keyword, Language, Mark, Token, Lexeme, HasSpelling, lexemes_of, IsName, has_keyword, has_mark, operator_mark, NameBytes, ExpressionNode, numeral, variable, element, minus, negation, complement, binary, conditional, StatementNode, assign, store, receive, send, choice, loop, Statements, no_statements, statement, Table, Declaration, array, table, ProcessNode, Literal, plain, negated, Item, channel, source, sink, instance, NetworkNode, Description, expanded, IsProperTerm, IsProperStatement, AreProper, AreNames, IsProperTable, IsProperDeclaration, IsProperProcess, IsProperLiteral, IsProperItem, IsProperLimit, IsProperNetwork, IsProper}
+use Rattle.kpn_text.proofs.Common.{◌≡◌, ℕ, ◌<◌, ◌^◌, true, List, [], ◌∷◌, length, Option, Some, None, Ok, subst, arith, AllByRecursion, Growth, Policy, MAX_LEVELS, Keyword, Language, Mark, Token, Lexeme, HasSpelling, lexemes_of, IsName, has_keyword, has_mark, operator_mark, NameBytes, ExpressionNode, numeral, variable, element, minus, negation, complement, binary, conditional, StatementNode, assign, store, receive, send, choice, loop, Statements, no_statements, statement, Table, Declaration, array, table, ProcessNode, Literal, plain, negated, Item, channel, source, sink, instance, NetworkNode, Description, expanded, IsProperTerm, IsProperStatement, AreProper, AreNames, IsProperTable, IsProperDeclaration, IsProperProcess, IsProperLiteral, IsProperItem, IsProperLimit, IsProperNetwork, IsProper, is_called, stands_between}
 use Rattle.kpn_text_tokens.specs.declared.tokens.Keyword.TheVariants as keyword
 use Rattle.kpn_text_tokens.specs.declared.tokens.Language.TheVariants as language
 use Rattle.kpn_text_tokens.specs.declared.tokens.Mark.TheVariants as mark
@@ -7,7 +7,7 @@ use Rattle.kpn_text_tokens.specs.declared.tokens.Token.TheVariants as token
 use Rattle.kpn_text_tokens.proofs.NumeralLaws.{number_small as is_below}
 use Rattle.kpn_text_tokens.proofs.WithoutPlaces.{read_spelled}
 use Rattle.kpn_text_expand.proofs.Spelled.{expanded_spelled}
-use Rattle.kpn_text_grammar.specs.Spelling.{kinds, SpellsTight, as_number, as_name, as_element, as_minus, as_negation, as_complement, in_parentheses, as_sides, as_conditional, as_binary, SpellsStatement, as_assignment, as_store, as_read, as_write, as_if, as_while, SpellsStatements, nothing, one_more, SpellsElse, left_out, behind_else, SpellsSecond, with_braces, as_branch, SpellsProcess, SpellsAll, IsDescription, spell_all, spell_further, spell_list, spell_name, spell_names, spell_table, spell_declaration, spell_part, spell_later_part, spell_parts, spell_literal, spell_values, spell_item, spell_limit, spell_policy, spell_growth, spell_network, spell_language}
+use Rattle.kpn_text_grammar.specs.Spelling.{kinds, SpellsTight, as_number, as_name, as_element, as_minus, as_negation, as_complement, in_parentheses, as_call, as_sides, as_conditional, as_binary, SpellsStatement, as_assignment, as_store, as_read, as_write, as_if, as_while, SpellsStatements, nothing, one_more, SpellsElse, left_out, behind_else, SpellsSecond, with_braces, as_branch, SpellsProcess, SpellsAll, IsDescription, spell_all, spell_further, spell_list, spell_name, spell_names, spell_table, spell_declaration, spell_part, spell_later_part, spell_parts, spell_literal, spell_values, spell_item, spell_limit, spell_policy, spell_growth, spell_network, spell_language}
 use Rattle.kpn_text.proofs.ReadingLaws.{are_tokens}
 
 -- each of the tokens can be spelled
@@ -58,10 +58,17 @@ tight_is {l} (complement e) (as_complement s) h =
 tight_is e (in_parentheses two s) h =
     let inner = tight_is e s h.1 in
     record { is = inner.is; rest = inner.rest.1 }
-tight_is {l} (binary op a b) (as_sides one s t) h =
+tight_is {l} (binary op a b) (as_call {x = x} two named s t) h =
+    let left = tight_is a s h.1.1 in
+    let right = tight_is b t left.rest.1 in
+    record { is = (is_called two named (is_name l x h.0), left.is, right.is); rest = right.rest.1 }
+tight_is {l} (binary op a b) (as_sides one between s t) h =
     let left = tight_is a s h.1 in
     let right = tight_is b t left.rest.1 in
-    record { is = (has_this l (operator_mark op) left.rest.0, left.is, right.is); rest = right.rest.1 }
+    record {
+      is = (stands_between between (has_this l (operator_mark op) left.rest.0), left.is, right.is);
+      rest = right.rest.1;
+    }
 tight_is {l} (conditional e a b) (as_conditional s t u) h =
     let test = tight_is e s h.1 in
     let first = tight_is a t test.rest.1 in
@@ -76,10 +83,13 @@ tight_is {l} (conditional e a b) (as_conditional s t u) h =
       );
       rest = second.rest.1;
     }
-tight_is {l} (binary op a b) (as_binary fits s t) h =
+tight_is {l} (binary op a b) (as_binary fits between s t) h =
     let left = tight_is a s h in
     let right = tight_is b t left.rest.1 in
-    record { is = (has_this l (operator_mark op) left.rest.0, left.is, right.is); rest = right.rest }
+    record {
+      is = (stands_between between (has_this l (operator_mark op) left.rest.0), left.is, right.is);
+      rest = right.rest;
+    }
 
 mutual
   statement_is : (l : Language) (s : StatementNode) {tokens more : List Token} → SpellsStatement MAX_LEVELS l s tokens more

@@ -1,9 +1,12 @@
 -- The canonical text of a document that a text spells also spells it, if it is short enough.
-use Rattle.kpn_text.proofs.Common.{◌≡◌, ℕ, ◌<◌, ◌≤◌, Bool, true, false, cond, List, [], ◌∷◌, ◌++◌, length, map, Some, None, Result, Ok, Err, refl, sym, ap, subst, ◌∙◌, arith, AllByRecursion, nat_tests, MAX_CAPACITY, MAX_TEXT_BYTES, MAX_LEVELS, IsProgram, Growth, Policy, Tables, IsNetwork, Language, tokens_of, language_of, Table, Declaration, array, table, ProcessNode, Description, spell_description, TableIsWithin, DeclarationIsWithin, ProcessIsWithin, IsWithinLimits, IsDescription, and_then, BlocksAreTheTree, growth_of, limit_of, policy_of, Settings, settings_of, Wiring, wiring, shared_of, SharedTables, NetworkNames, DescriptionIsRead, LanguageIsTold, ReadDescriptionsAreProper, growth_named, limit_named, policy_named, description_named, IsProperTable, IsProperDeclaration, IsProperProcess, IsProperLimit, IsProperItem, IsProper, description_text, names_in, Document, canonical_text, SpellsDocument, IsOfSomeText, ok_is, went, then_ok}
+use Rattle.kpn_text.proofs.Common.{◌≡◌, ℕ, ◌<◌, ◌≤◌, Bool, true, false, cond, List, [], ◌∷◌, ◌++◌, length, map, Some, None, Result, Ok, Err, refl, sym, ap, subst, ◌∙◌, arith, AllByRecursion, nat_tests, MAX_CAPACITY, MAX_TEXT_BYTES, MAX_LEVELS, IsProgram, Growth, Policy, Tables, IsNetwork, Language, Token, tokens_of, language_of, Table, Declaration, array, table, ProcessNode, Description, spell_description, TableIsWithin, DeclarationIsWithin, ProcessIsWithin, IsWithinLimits, IsDescription, and_then, BlocksAreTheTree, growth_of, limit_of, policy_of, Settings, settings_of, Wiring, wiring, shared_of, SharedTables, NetworkNames, DescriptionIsRead, LanguageIsTold, ReadDescriptionsAreProper, growth_named, limit_named, policy_named, description_named, IsProperTable, IsProperDeclaration, IsProperProcess, IsProperLimit, IsProperItem, IsProper, description_text, names_in, Document, canonical_text, SpellsDocument, IsOfSomeText, ok_is, went, then_ok}
 use Rattle.std.specs.Prelude.{nat_lt, All, IfOk}
 use Rattle.kpn_net.specs.declared.tables.Growth.TheVariants as growth
 use Rattle.kpn_net.specs.declared.tables.Policy.TheVariants as policy
-use Rattle.kpn_text_grammar.specs.Laws.{CanonicalSpells}
+use Rattle.kpn_text_grammar.specs.Laws.{CanBeSpelled, CanonicalSpells}
+use Rattle.kpn_text_grammar.specs.Spelling.{SpellsAll, SpellsProcess}
+use Rattle.kpn_text_tokens.specs.declared.tokens.Mark.TheVariants as mark
+use Rattle.kpn_text_tokens.specs.declared.tokens.Token.TheVariants as token
 use Rattle.kpn_text_names.specs.Named.{Programs, programs_of, Named, named_with, resolve}
 use Rattle.kpn_text.specs.Again.{PrintedTextSpells}
 use Rattle.kpn_text_expand.specs.Plain.{ArePlain}
@@ -221,6 +224,13 @@ proper text d s read k =
       network = record { limit = k.limit; items = k.items was.network.items };
     }
 
+-- what was read can be spelled
+can_be_spelled : (l : Language) (ps : List ProcessNode) (tokens more : List Token)
+    → SpellsAll (SpellsProcess MAX_LEVELS l) ps tokens more → AllByRecursion (λ p. CanBeSpelled l p.body) ps
+can_be_spelled l [] tokens more h = tt
+can_be_spelled l (p ∷ ps) tokens more h =
+    ((h.1.inside, token.Mark mark.RightBrace ∷ h.0, h.1.body), can_be_spelled l ps h.0 more h.2)
+
 -- its tables and processes are within the limits of the grammar
 printed_fits : CanonicalSpells → (text : List ℕ) (d : Document) (s : SpellsDocument text d) → Kept d.language s.tree s.named
     → IsDescription d.language (spell_description d.language (printed s.named)) (printed s.named)
@@ -236,6 +246,9 @@ printed_fits spells text d s k =
           (all_mapped sorted_process (ProcessIsWithin MAX_LEVELS MAX_LEVELS) (ProcessIsWithin MAX_LEVELS MAX_LEVELS) sorted_within
           s.tree.processes was.processes);
     })
+    (subst (λ ps. AllByRecursion (λ p. CanBeSpelled d.language p.body) ps) k.processes
+    (all_mapped sorted_process (λ p. CanBeSpelled d.language p.body) (λ p. CanBeSpelled d.language p.body)
+    (λ p can. can) s.tree.processes (can_be_spelled d.language s.tree.processes _ _ s.spelled.spelled.processes)))
 
 pub spelled_kept : BlocksAreTheTree → LimitsAreInRange → (text : List ℕ) (d : Document) (s : SpellsDocument text d)
     → Kept d.language s.tree s.named

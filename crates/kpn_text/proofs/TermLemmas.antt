@@ -1,5 +1,5 @@
 -- How a printed expression is read.
-use Rattle.kpn_text.proofs.Common.{◌≡◌, ℕ, ◌<◌, ◌^◌, Bool, true, false, ◌&&◌, if◌then◌else◌, nat_le, List, [], ◌∷◌, ◌++◌, codes, length, refl, arith, is_ascii_digit, decimal, list_all, starts_with, nat_eq, and_parts, nat_tests, Language, Token, begins_name, IsName, MarkEnds, has_mark, mark_bytes, decimal_spelled, NameBytes, ExpressionNode, numeral, variable, element, minus, negation, complement, binary, conditional, operator_mark, tightness, left_side, right_side, LOOSEST, OPERAND, spell_term, spell_tight, spell_expression, EndsWord, HasBrackets, IsProperTerm, needs_no_parentheses, open_text, close_text, term_text, whole_text}
+use Rattle.kpn_text.proofs.Common.{◌≡◌, ℕ, ◌<◌, ◌^◌, Bool, true, false, ◌&&◌, if◌then◌else◌, nat_le, List, [], ◌∷◌, ◌++◌, codes, length, refl, arith, is_ascii_digit, decimal, list_all, starts_with, nat_eq, and_parts, nat_tests, Language, Token, begins_name, IsName, MarkEnds, has_mark, mark_bytes, decimal_spelled, NameBytes, ExpressionNode, numeral, variable, element, minus, negation, complement, binary, conditional, operator_mark, operator_name, by_name, HasOperator, stands_between, is_called, tightness, left_side, right_side, LOOSEST, OPERAND, spell_term, spell_tight, spell_expression, EndsWord, HasBrackets, IsProperTerm, needs_no_parentheses, open_text, close_text, term_text, whole_text}
 use Rattle.kpn_text_tokens.specs.declared.tokens.Language.TheVariants as language
 use Rattle.kpn_text_tokens.specs.declared.tokens.Mark.TheVariants as mark
 use Rattle.kpn_text_tokens.specs.declared.tokens.Token.TheVariants as token
@@ -31,6 +31,8 @@ operator_ends language.Two operator.BitOr more = refl
 operator_ends l operator.BitXor more = tt
 operator_ends l operator.Shl more = tt
 operator_ends l operator.Shr more = tt
+operator_ends l operator.Min more = tt
+operator_ends l operator.Max more = tt
 
 -- an operator with a space on each side
 operator_read : {l : Language} (op : Op) (more : List ℕ) (tokens : List Token) → has_mark l (operator_mark op) ≡ true
@@ -64,6 +66,21 @@ number_no_equals l n more small =
     let is = decimal_spelled language.One n small in
     digits_no_equals (decimal n) more is.digits is.some
 
+-- a text or tokens by the name of an operator that the language has
+by_operator : {A : Type 0} (l : Language) (op : Op) → HasOperator l op → (P : A → Type 0) (calls : NameBytes → A) (bare : A)
+    → ((x : NameBytes) → l ≡ language.Two → IsName l x → P (calls x))
+    → (has_mark l (operator_mark op) ≡ true → P bare) → P (by_name (operator_name op) calls bare)
+by_operator l op (is_called {x = x} two named name) P calls bare f g = rw named (f x two name)
+by_operator l op (stands_between none has) P calls bare f g = rw none (g has)
+
+-- both
+by_both : {A B : Type 0} (l : Language) (op : Op) → HasOperator l op → (P : A → B → Type 0) (calls : NameBytes → A)
+    (bare : A) (spelled : NameBytes → B) (plain : B) → ((x : NameBytes) → IsName l x → P (calls x) (spelled x))
+    → (has_mark l (operator_mark op) ≡ true → P bare plain)
+    → P (by_name (operator_name op) calls bare) (by_name (operator_name op) spelled plain)
+by_both l op (is_called {x = x} two named name) P calls bare spelled plain f g = rw named (f x name)
+by_both l op (stands_between none has) P calls bare spelled plain f g = rw none (g has)
+
 -- so no expression does
 open_no_equals : (free : Bool) (text : List ℕ) → starts_with nat_eq text (codes "=") ≡ false
     → starts_with nat_eq (open_text free text) (codes "=") ≡ false
@@ -79,7 +96,9 @@ term_no_equals l n (minus e) more is = refl
 term_no_equals l n (negation e) more is = refl
 term_no_equals l n (complement e) more is = refl
 term_no_equals l n (binary op a b) more is =
-    open_no_equals (needs_no_parentheses l n op) _ (term_no_equals l (left_side op) a _ is.1)
+    by_operator l op is.0 (λ (text : List ℕ). starts_with nat_eq text (codes "=") ≡ false) _ _
+    (λ x two name. name_no_equals l x _ name)
+    (λ has. open_no_equals (needs_no_parentheses l n op) _ (term_no_equals l (left_side op) a _ is.1))
 term_no_equals l n (conditional e a b) more is = refl
 
 -- a text that is read as tokens, whatever follows it but a letter, a digit or `_`
@@ -147,6 +166,16 @@ choice_read test first second c a b question colon is_c is_a is_b more tokens en
     (space_read _ _ middle)) in
     mark_read mark.LeftParen _ _ refl tt (is_c _ _ refl mark_of_test)
 
+call_read : {l : Language} (x : NameBytes) (left right : List ℕ → List ℕ) (first second : List Token → List Token)
+    → IsName l x → IsRead l left first → IsRead l right second
+    → IsRead l (λ more. x ++ (codes "(" ++ left (codes ", " ++ right (codes ")" ++ more))))
+    (λ tokens. token.Name x ∷ token.Mark mark.LeftParen ∷ first (token.Mark mark.Comma
+    ∷ second (token.Mark mark.RightParen ∷ tokens)))
+call_read x left right first second name a b more tokens ends h =
+    let last = b (codes ")" ++ more) _ refl (closed_read more tokens h) in
+    let comma = mark_read mark.Comma (codes " " ++ right (codes ")" ++ more)) _ refl tt (space_read _ _ last) in
+    name_read x _ _ name refl (mark_read mark.LeftParen _ _ refl tt (a _ _ refl comma))
+
 -- in language 1
 term_read : (n : ℕ) (e : ExpressionNode) → IsProperTerm language.One e
     → IsRead language.One (λ more. term_text language.One n e more) (λ tokens. spell_term e tokens)
@@ -162,9 +191,12 @@ term_read n (complement e) is more tokens ends h =
     mark_read mark.BitNot (term_text language.One OPERAND e more) _ is.0 tt
     (term_read OPERAND e is.1 more tokens ends h)
 term_read n (binary op a b) is more tokens ends h =
-    enclosed_read _ _
-    (sides_read op _ _ (λ tokens. spell_term a tokens) (λ tokens. spell_term b tokens) is.0
-    (term_read (left_side op) a is.1) (term_read (right_side op) b is.2)) more tokens ends h
+    by_operator language.One op is.0
+    (λ (text : List ℕ). IsReadAs language.One text (spell_term (binary op a b) tokens)) _ _
+    (λ x two name. let no : language.One ≡ language.Two = two in absurd cc)
+    (λ has. enclosed_read _ _
+    (sides_read op _ _ (λ tokens. spell_term a tokens) (λ tokens. spell_term b tokens) has
+    (term_read (left_side op) a is.1) (term_read (right_side op) b is.2)) more tokens ends h)
 term_read n (conditional e a b) is more tokens ends h =
     choice_read _ _ _ (λ tokens. spell_term e tokens) (λ tokens. spell_term a tokens) (λ tokens. spell_term b tokens)
     is.0 is.1 (term_read LOOSEST e is.2) (term_read LOOSEST a is.3) (term_read LOOSEST b is.4)
@@ -186,10 +218,13 @@ tight_read n (complement e) is more tokens ends h =
     mark_read mark.BitNot (term_text language.Two OPERAND e more) _ is.0 tt
     (tight_read OPERAND e is.1 more tokens ends h)
 tight_read n (binary op a b) is more tokens ends h =
-    free_read (nat_le n (tightness op)) _ _
+    by_both language.Two op is.0 (λ (text : List ℕ) (ts : List Token). IsReadAs language.Two text ts) _ _ _ _
+    (λ x name. call_read x _ _ (λ tokens. spell_tight LOOSEST a tokens) (λ tokens. spell_tight LOOSEST b tokens) name
+    (tight_read LOOSEST a is.1) (tight_read LOOSEST b is.2) more tokens ends h)
+    (λ has. free_read (nat_le n (tightness op)) _ _
     (sides_read op _ _ (λ tokens. spell_tight (left_side op) a tokens)
-    (λ tokens. spell_tight (right_side op) b tokens) is.0 (tight_read (left_side op) a is.1)
-    (tight_read (right_side op) b is.2)) more tokens ends h
+    (λ tokens. spell_tight (right_side op) b tokens) has (tight_read (left_side op) a is.1)
+    (tight_read (right_side op) b is.2)) more tokens ends h)
 tight_read n (conditional e a b) is more tokens ends h =
     choice_read _ _ _ (λ tokens. spell_tight LOOSEST e tokens) (λ tokens. spell_tight LOOSEST a tokens)
     (λ tokens. spell_tight LOOSEST b tokens) is.0 is.1 (tight_read LOOSEST e is.2) (tight_read LOOSEST a is.3)

@@ -2,18 +2,25 @@
 -- number is in range.
 use Rattle.std.specs.Prelude.{◌≡◌, ℕ, ◌<◌, ◌^◌, true, List, Option, Some, None}
 use Rattle.std.specs.List.{AllByRecursion}
+use Rattle.kpn_lang.specs.declared.syntax.Op.{Op}
 use Rattle.kpn_text_tokens.specs.declared.tokens.Language.{Language}
+use Rattle.kpn_text_tokens.specs.declared.tokens.Language.TheVariants as language
 use Rattle.kpn_text_tokens.specs.declared.tokens.Keyword.TheVariants as keyword
 use Rattle.kpn_text_tokens.specs.declared.tokens.Mark.TheVariants as mark
 use Rattle.kpn_text_tokens.specs.Spelling.{has_keyword, has_mark}
 use Rattle.kpn_text_tokens.specs.Rules.{IsName}
-use Rattle.kpn_text_grammar.specs.Operators.{operator_mark}
+use Rattle.kpn_text_grammar.specs.Operators.{operator_mark, operator_name}
 use Rattle.kpn_text_grammar.specs.Syntax.{NameBytes, ExpressionNode, numeral, variable, element, minus, negation, complement, binary, conditional, StatementNode, assign, store, receive, send, choice, loop, Statements, no_statements, statement, Literal, plain, negated, Table, Declaration, array, table, ProcessNode, InstanceNode, Item, channel, source, sink, instance, NetworkNode, Description}
 
 -- the language has `[` and `]`
 pub record HasBrackets (l : Language) : Type 0 where
   pub left : has_mark l mark.LeftBracket ≡ true
   pub right : has_mark l mark.RightBracket ≡ true
+
+-- the language has an operator, between its sides or by the name that calls it
+pub data HasOperator (l : Language) (op : Op) : Type 0 where
+  stands_between : operator_name op ≡ None → has_mark l (operator_mark op) ≡ true → HasOperator l op
+  is_called : {x : NameBytes} → l ≡ language.Two → operator_name op ≡ Some x → IsName l x → HasOperator l op
 
 -- each name is a name, each number is below 2 ^ 63, and the language has each operator
 abbrev pub IsProperTerm : Language → ExpressionNode → Type 0
@@ -23,7 +30,7 @@ IsProperTerm l (element x e) = IsName l x × HasBrackets l × IsProperTerm l e
 IsProperTerm l (minus e) = IsProperTerm l e
 IsProperTerm l (negation e) = IsProperTerm l e
 IsProperTerm l (complement e) = (has_mark l mark.BitNot ≡ true) × IsProperTerm l e
-IsProperTerm l (binary op a b) = (has_mark l (operator_mark op) ≡ true) × IsProperTerm l a × IsProperTerm l b
+IsProperTerm l (binary op a b) = HasOperator l op × IsProperTerm l a × IsProperTerm l b
 IsProperTerm l (conditional e a b) =
     (has_mark l mark.Question ≡ true) × (has_mark l mark.Colon ≡ true) × IsProperTerm l e × IsProperTerm l a
     × IsProperTerm l b

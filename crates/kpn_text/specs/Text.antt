@@ -11,7 +11,8 @@ use Rattle.kpn_text_tokens.specs.declared.tokens.Language.{Language}
 use Rattle.kpn_text_tokens.specs.declared.tokens.Language.TheVariants as language
 use Rattle.kpn_text_tokens.specs.Spelling.{keyword_bytes, mark_bytes}
 use Rattle.kpn_text_grammar.specs.Syntax.{NameBytes, ExpressionNode, numeral, variable, element, minus, negation, complement, binary, conditional, StatementNode, assign, store, receive, send, choice, loop, Statements, no_statements, statement, Literal, plain, negated, Table, Declaration, array, table, ProcessNode, InstanceNode, Item, channel, source, sink, instance, NetworkNode, Description}
-use Rattle.kpn_text_grammar.specs.Operators.{operator_mark, tightness, left_side, right_side, LOOSEST, OPERAND}
+use Rattle.kpn_text_grammar.specs.Operators.{operator_mark, operator_name, tightness, left_side, right_side, LOOSEST, OPERAND}
+use Rattle.kpn_text_grammar.specs.Spelling.{by_name}
 use Rattle.kpn_text_grammar.specs.Words.{growth_word, policy_word}
 
 -- ---- expressions and statements
@@ -36,7 +37,8 @@ abbrev pub close_text : Bool → List ℕ → List ℕ
 close_text true more = more
 close_text false more = codes ")" ++ more
 
--- where an expression has to bind as tight as this: a number, a name, x[e], -e, !e, ~e, a op b, (a op b), (e ? a : b)
+-- where an expression has to bind as tight as this: a number, a name, x[e], -e, !e, ~e, min(a, b), a op b, (a op b),
+-- (e ? a : b)
 abbrev pub term_text : Language → ℕ → ExpressionNode → List ℕ → List ℕ
 term_text l n (numeral k) more = decimal k ++ more
 term_text l n (variable x) more = x ++ more
@@ -45,11 +47,13 @@ term_text l n (minus e) more = codes "-" ++ term_text l OPERAND e more
 term_text l n (negation e) more = codes "!" ++ term_text l OPERAND e more
 term_text l n (complement e) more = codes "~" ++ term_text l OPERAND e more
 term_text l n (binary op a b) more =
-    open_text (needs_no_parentheses l n op)
+    by_name (operator_name op)
+    (λ x. x ++ (codes "(" ++ term_text l LOOSEST a (codes ", " ++ term_text l LOOSEST b (codes ")" ++ more))))
+    (open_text (needs_no_parentheses l n op)
     (term_text l (left_side op) a
     (codes " "
     ++ (mark_bytes (operator_mark op)
-    ++ (codes " " ++ term_text l (right_side op) b (close_text (needs_no_parentheses l n op) more)))))
+    ++ (codes " " ++ term_text l (right_side op) b (close_text (needs_no_parentheses l n op) more))))))
 term_text l n (conditional e a b) more =
     codes "("
     ++ term_text l LOOSEST e

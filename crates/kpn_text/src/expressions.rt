@@ -9,13 +9,13 @@ ghost use Rattle.kpn_text.specs.Writing.{Writes};
 
 use crate::pieces::{bytes, name, number, row};
 use kpn_lang::{Expr, Op};
-use kpn_text_grammar::{LOOSEST, OPERAND, left_side, mark_of, right_side, tightness};
+use kpn_text_grammar::{LOOSEST, OPERAND, left_side, mark_of, name_of, right_side, tightness};
 use kpn_text_names::ProcessNames;
 use kpn_text_tokens::Language;
 use std::alloc::AllocError;
 
 /// An expression over variables, arrays and tables of these names, where one has to bind as tight as `tight`: `x[e]`,
-/// `-e`, `!e`, `~e`, `e op e`, `(e op e)`, `(e ? e : e)`.
+/// `-e`, `!e`, `~e`, `min(e, e)`, `e op e`, `(e op e)`, `(e ? e : e)`.
 pub(crate) fn expression(
     out: &mut Vec<u8>,
     language: Language,
@@ -47,16 +47,26 @@ pub(crate) fn expression(
             bytes(out, b"~")?;
             expression(out, language, OPERAND, names, operand)
         }
-        Expr::Bin(op, left, right) => {
-            let free = is_free(language, tight, *op);
-            open_unless(out, free)?;
-            expression(out, language, left_side(*op), names, left)?;
-            bytes(out, b" ")?;
-            bytes(out, mark_of(*op).spelling())?;
-            bytes(out, b" ")?;
-            expression(out, language, right_side(*op), names, right)?;
-            close_unless(out, free)
-        }
+        Expr::Bin(op, left, right) => match name_of(*op) {
+            Some(called) => {
+                bytes(out, called)?;
+                bytes(out, b"(")?;
+                expression(out, language, LOOSEST, names, left)?;
+                bytes(out, b", ")?;
+                expression(out, language, LOOSEST, names, right)?;
+                bytes(out, b")")
+            }
+            None => {
+                let free = is_free(language, tight, *op);
+                open_unless(out, free)?;
+                expression(out, language, left_side(*op), names, left)?;
+                bytes(out, b" ")?;
+                bytes(out, mark_of(*op).spelling())?;
+                bytes(out, b" ")?;
+                expression(out, language, right_side(*op), names, right)?;
+                close_unless(out, free)
+            }
+        },
         Expr::Choice(test, first, second) => {
             bytes(out, b"(")?;
             expression(out, language, LOOSEST, names, test)?;

@@ -6,7 +6,8 @@ use Rattle.kpn_text_tokens.specs.declared.tokens.Keyword.TheVariants as keyword
 use Rattle.kpn_text_tokens.specs.declared.tokens.Language.TheVariants as language
 use Rattle.kpn_text_tokens.specs.declared.tokens.Mark.TheVariants as mark
 use Rattle.kpn_text_tokens.specs.declared.tokens.Token.TheVariants as token
-use Rattle.kpn_text_grammar.specs.Operators.{left_side, operator_mark, right_side, tightness, LOOSEST, OPERAND}
+use Rattle.kpn_text_grammar.specs.Operators.{left_side, operator_mark, operator_name, right_side, tightness, LOOSEST, OPERAND}
+use Rattle.kpn_text_grammar.proofs.Steps.{by_form}
 use Rattle.kpn_text_grammar.specs.Words.{growth_word, policy_word}
 use Rattle.kpn_text_expand.specs.declared.capacities.HeadSpot.TheVariants as spot
 use Rattle.kpn_text_expand.proofs.PlainCapacities.{first_none}
@@ -36,8 +37,9 @@ tight_begins n (minus e) more = refl
 tight_begins n (negation e) more = refl
 tight_begins n (complement e) more = refl
 tight_begins n (binary op a b) more =
-    cond_both (nat_le n (tightness op)) _ _ (λ ts. not_assigned ts ≡ true)
-    (λ e. tight_begins (left_side op) a _) (λ e. refl)
+    by_form (λ (ts : List Token). not_assigned ts ≡ true) (operator_name op) _ _ (λ x e. refl)
+    (λ none. cond_both (nat_le n (tightness op)) _ _ (λ ts. not_assigned ts ≡ true)
+    (λ e. tight_begins (left_side op) a _) (λ e. refl))
 tight_begins n (conditional c a b) more = refl
 
 either : (b r : Bool) → r ≡ true → (if b then r else true) ≡ true
@@ -74,13 +76,15 @@ tight n (minus e) more h = (tight_begins OPERAND e more, tight OPERAND e _ h)
 tight n (negation e) more h = (refl, tight OPERAND e _ h)
 tight n (complement e) more h = (refl, tight OPERAND e _ h)
 tight n (binary op a b) more h =
-    cond_both (nat_le n (tightness op)) _ _ ArePlain
+    by_form ArePlain (operator_name op) _ _
+    (λ x e. (refl, (refl, tight LOOSEST a _ (refl, tight LOOSEST b _ (refl, h)))))
+    (λ none. cond_both (nat_le n (tightness op)) _ _ ArePlain
     (λ e. tight (left_side op) a _ (tight_operator op b more, tight (right_side op) b _ h))
     (λ e. (
       refl,
       tight (left_side op) a _
           (tight_operator op b (token.Mark mark.RightParen ∷ more), tight (right_side op) b _ (refl, h)),
-    ))
+    )))
 tight n (conditional c a b) more h =
     (refl, tight LOOSEST c _ (refl, tight LOOSEST a _ (refl, tight LOOSEST b _ (refl, h))))
 

@@ -9,7 +9,7 @@ use Rattle.kpn_text_tokens.specs.Results.{and_then}
 use Rattle.kpn_text_grammar.specs.Reading.{Read, first_is, next, mark, keyword, two, read_as, token_name, name, token_number, number, token_operator, operator, or_fault_at, many, further, separated}
 use Rattle.kpn_text_grammar.proofs.Lookahead.{lower, Anything, Fills, Looks, Looking, Starts, CanStart, Meets, bind_fills, bind_looks, by_first, deep_looks, done_fills, done_looks, done_meets, each_looks, fills_as, first_looks, first_reads, kept_too, looks_same, pick_looks, start_fills, with_others}
 use Rattle.kpn_text_grammar.proofs.Lookahead as look
-use Rattle.kpn_text_grammar.proofs.Steps.{bind_ok, bound, by_test, found_is, kind_of, kinds_of, moved, next_takes, next_again, no_value, is_mark_true, is_mark_same, is_keyword_true, is_keyword_same, is_two_true, token_operator_is, operator_back}
+use Rattle.kpn_text_grammar.proofs.Steps.{bind_ok, bound, by_test, found_is, kind_of, kinds_of, moved, next_takes, next_again, no_value, is_mark_true, is_mark_same, is_keyword_true, is_keyword_same, is_two_true, token_operator_is, token_operator_between, IsBetween, operator_back}
 
 -- ---- the laws of a reader
 
@@ -793,11 +793,11 @@ unfolding number
 a_number s = a_token s token_number token.Number token_number_is (λ n free. refl) 1 tt
 
 pub an_operator : {ok : Type 0} (s : Scope)
-    → Reader s.end ok (λ o more. token.Mark (operator_mark o) ∷ more) Free Anything (operator (lower s)) (operator s)
+    → Reader s.end ok (λ o more. token.Mark (operator_mark o) ∷ more) IsBetween Anything (operator (lower s)) (operator s)
 unfolding operator
 an_operator s =
-    a_token s token_operator (λ o. token.Mark (operator_mark o)) (λ t o h. (token_operator_is t o h, tt))
-    (λ o free. operator_back o) op.Add tt
+    a_token s token_operator (λ o. token.Mark (operator_mark o))
+    (λ t o h. (token_operator_is t o h, token_operator_between t o h)) (λ o between. operator_back o between) op.Add refl
 
 -- ---- one after another
 

@@ -1,9 +1,10 @@
 -- Steps of reading: what a chain of steps returns, and the laws of the parsers of one token.
-use Rattle.kpn_text_grammar.proofs.Common.{◌≡◌, ℕ, Bool, true, false, cond, List, [], ◌∷◌, Option, Some, None, Result, Ok, Err, IfOk, refl, sym, ap, subst, ◌∙◌, eqb-true, Language, Lexeme, Token, Mark, Keyword, GrammarFault, Scope, Op, Growth, Policy, NameBytes, kinds, same_mark, same_keyword, is_mark, is_keyword, is_number_two}
+use Rattle.kpn_text_grammar.proofs.Common.{◌≡◌, ℕ, Bool, true, false, cond, List, [], ◌∷◌, codes, Option, Some, None, Result, Ok, Err, IfOk, refl, sym, ap, subst, ◌∙◌, eqb-true, Language, Lexeme, Token, Mark, Keyword, GrammarFault, Scope, Op, Growth, Policy, NameBytes, kinds, same_mark, same_keyword, is_mark, is_keyword, is_number_two}
 use Rattle.std.specs.Str.{bytes_eq}
 use Rattle.std.proofs.lemmas.Slice.Eq.{bytes_eq-Decides}
 use denote.Enum.Bare.{same_true, true_same}
 use Rattle.kpn_text_tokens.specs.declared.tokens.Language.TheVariants as language
+use Rattle.kpn_text_tokens.specs.declared.tokens.Mark.TheVariants as mark_
 use Rattle.kpn_text_tokens.specs.declared.tokens.Token.TheVariants as token
 use Rattle.kpn_text_tokens.specs.contracts.tokens.Mark.{the_type as mark_type}
 use Rattle.kpn_text_tokens.specs.contracts.tokens.Keyword.{the_type as keyword_type}
@@ -11,7 +12,8 @@ use Rattle.kpn_text_grammar.specs.declared.fault.GrammarFault.TheVariants as fau
 use Rattle.kpn_lang.specs.declared.syntax.Op.TheVariants as op
 use Rattle.kpn_net.specs.declared.tables.Growth.TheVariants as growth
 use Rattle.kpn_net.specs.declared.tables.Policy.TheVariants as policy
-use Rattle.kpn_text_grammar.specs.Operators.{every_operator, operator_mark, operator_of}
+use Rattle.kpn_text_grammar.specs.Operators.{is_named, operator_called, operator_mark, operator_name, operator_of, operators_between}
+use Rattle.kpn_text_grammar.specs.Spelling.{by_name}
 use Rattle.kpn_text_grammar.specs.Words.{growth_word, growth_spelled, policy_word, policy_spelled}
 use Rattle.kpn_text_tokens.specs.Results.{and_then, OkOr}
 use Rattle.kpn_text_grammar.specs.Reading.{ReadingFails, ReadingGives, first_is, is_second, next, token_operator, or_fault_at}
@@ -135,28 +137,58 @@ is_two_true (token.Keyword k) h = absurd cc
 operator_is : (m : Mark) (o : Op) → operator_of m ≡ Some o → m ≡ operator_mark o
 unfolding operator_of
 operator_is m o h =
-    sym (same_mark_true (operator_mark o) m (find_passes (λ p. same_mark (operator_mark p) m) every_operator o h))
+    sym (same_mark_true (operator_mark o) m (find_passes (λ p. same_mark (operator_mark p) m) operators_between o h))
 
-pub operator_back : (o : Op) → operator_of (operator_mark o) ≡ Some o
+-- it stands between its sides
+abbrev pub IsBetween : Op → Type 0
+IsBetween o = operator_name o ≡ None
+
+no_comma : (m : Mark) (o : Op) → operator_of m ≡ Some o → operator_mark o ≡ mark_.Comma → ⊥
 unfolding operator_of
-operator_back op.Add = refl
-operator_back op.Sub = refl
-operator_back op.Mul = refl
-operator_back op.Div = refl
-operator_back op.Rem = refl
-operator_back op.Lt = refl
-operator_back op.Le = refl
-operator_back op.Gt = refl
-operator_back op.Ge = refl
-operator_back op.Eq = refl
-operator_back op.Ne = refl
-operator_back op.And = refl
-operator_back op.Or = refl
-operator_back op.BitAnd = refl
-operator_back op.BitOr = refl
-operator_back op.BitXor = refl
-operator_back op.Shl = refl
-operator_back op.Shr = refl
+no_comma m o h e =
+    let none : ◌≡◌ {A = Option Op} None (Some o) = sym (ap operator_of (operator_is m o h ∙ e)) ∙ h in
+    cc
+
+operator_between : (m : Mark) (o : Op) → operator_of m ≡ Some o → IsBetween o
+operator_between m op.Min h = absurd (no_comma m op.Min h refl)
+operator_between m op.Max h = absurd (no_comma m op.Max h refl)
+operator_between m _ h = refl
+
+pub operator_back : (o : Op) → IsBetween o → operator_of (operator_mark o) ≡ Some o
+unfolding operator_of
+operator_back op.Min between = absurd cc
+operator_back op.Max between = absurd cc
+operator_back _ between = refl
+
+-- the name that calls an operator
+named_is : (x : NameBytes) (m : Option NameBytes) → is_named x m ≡ true → m ≡ Some x
+named_is x (Some y) h = ap (λ (z : NameBytes). Some z) ((bytes_eq-Decides y x).0 h)
+named_is x None h = absurd cc
+
+pub called_is : (l : Language) (x : NameBytes) (o : Op) → operator_called l x ≡ Some o
+    → (l ≡ language.Two) × (operator_name o ≡ Some x)
+unfolding operator_called
+called_is language.One x o h = absurd cc
+called_is language.Two x o h = (
+  refl,
+  named_is x (operator_name o) (find_passes (λ p. is_named x (operator_name p)) (op.Min ∷ op.Max ∷ []) o h),
+)
+
+pub called_back : (o : Op) (x : NameBytes) → operator_name o ≡ Some x → operator_called language.Two x ≡ Some o
+unfolding operator_called
+called_back op.Min x h =
+    let e : codes "min" ≡ x = cc in
+    subst (λ (y : NameBytes). operator_called language.Two y ≡ Some op.Min) e refl
+called_back op.Max x h =
+    let e : codes "max" ≡ x = cc in
+    subst (λ (y : NameBytes). operator_called language.Two y ≡ Some op.Max) e refl
+called_back _ x h = absurd cc
+
+-- a choice by the name of an operator
+pub by_form : {A : Type 0} (P : A → Type 0) (m : Option NameBytes) (called : NameBytes → A) (between : A)
+    → ((x : NameBytes) → m ≡ Some x → P (called x)) → (m ≡ None → P between) → P (by_name m called between)
+by_form P (Some x) called between f g = f x refl
+by_form P None called between f g = g refl
 
 pub found_is : {A : Type 0} (found : Option A) (start : ℕ) (ls : List Lexeme) (x : A) (rest : List Lexeme)
     → or_fault_at start ls found ≡ Ok (x, rest) → (found ≡ Some x) × (ls ≡ rest)
@@ -172,6 +204,12 @@ token_operator_is (token.Mark m) o h = ap token.Mark (operator_is m o h)
 token_operator_is (token.Name x) o h = absurd cc
 token_operator_is (token.Number n) o h = absurd cc
 token_operator_is (token.Keyword k) o h = absurd cc
+
+pub token_operator_between : (t : Token) (o : Op) → token_operator t ≡ Some o → IsBetween o
+token_operator_between (token.Mark m) o h = operator_between m o h
+token_operator_between (token.Name x) o h = absurd cc
+token_operator_between (token.Number n) o h = absurd cc
+token_operator_between (token.Keyword k) o h = absurd cc
 
 -- ---- a name that stands for something
 

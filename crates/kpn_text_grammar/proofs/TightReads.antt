@@ -1,16 +1,17 @@
 -- What is read as an expression follows the rules and has no more levels than it may, and what follows
 -- the rules is read, whatever stands behind it: to read it is to go on behind it. The canonical spelling follows them.
-use Rattle.kpn_text_grammar.proofs.Common.{◌≡◌, ◌⊎◌, inl, inr, ℕ, zero, suc, ◌+◌, ◌-◌, ◌<◌, ◌≤◌, Bool, true, false, nat_le, cond, List, [], ◌∷◌, ◌++◌, length, Option, Some, None, Result, Ok, Err, refl, sym, ap, subst, ◌∙◌, arith, cond_both, leb-false, leb-true, le-leb, lt-leb, Language, Lexeme, Token, GrammarFault, Scope, Op, NameBytes, ExpressionNode, numeral, variable, element, minus, negation, complement, binary, conditional, operator_mark, tightness, left_side, right_side, LOOSEST, OPERAND, loosest, kinds, term_level, spell_term, spell_tight, SpellsTight, as_number, as_name, as_element, as_minus, as_negation, as_complement, in_parentheses, as_sides, as_conditional, as_binary, is_mark}
+use Rattle.kpn_text_grammar.proofs.Common.{◌≡◌, ◌⊎◌, inl, inr, ℕ, zero, suc, ◌+◌, ◌-◌, ◌<◌, ◌≤◌, Bool, true, false, nat_le, cond, List, [], ◌∷◌, ◌++◌, length, Option, Some, None, Result, Ok, Err, refl, sym, ap, subst, ◌∙◌, arith, cond_both, leb-false, leb-true, le-leb, lt-leb, Language, Lexeme, Token, GrammarFault, Scope, Op, NameBytes, ExpressionNode, numeral, variable, element, minus, negation, complement, binary, conditional, operator_mark, tightness, left_side, right_side, LOOSEST, OPERAND, loosest, kinds, term_level, spell_term, spell_tight, SpellsTight, as_number, as_name, as_element, as_minus, as_negation, as_complement, in_parentheses, as_call, as_sides, as_conditional, as_binary, is_mark}
 use Rattle.kpn_text_tokens.specs.declared.tokens.Language.TheVariants as language
 use Rattle.kpn_text_tokens.specs.declared.tokens.Token.TheVariants as token
 use Rattle.kpn_text_tokens.specs.declared.tokens.Mark.TheVariants as mark_
 use Rattle.kpn_text_grammar.specs.declared.fault.GrammarFault.TheVariants as fault
 use Rattle.kpn_text_tokens.specs.Results.{and_then}
-use Rattle.kpn_text_grammar.specs.Reading.{Read, next, mark, read_as, token_operator, operator, begins_expression, level_fault, first_is, operator_fits, goes_further, unless_full, sides_behind, behind_name, binary_behind, conditional_behind, is_second, inside_behind, tight_operand, tight_over, tight}
+use Rattle.kpn_text_grammar.specs.Operators.{operator_called, operator_name}
+use Rattle.kpn_text_grammar.specs.Reading.{Read, next, mark, read_as, token_operator, operator, begins_expression, level_fault, first_is, operator_fits, goes_further, unless_full, sides_behind, call_behind, call_or_name, behind_name, binary_behind, conditional_behind, is_second, inside_behind, tight_operand, tight_over, tight}
 use Rattle.kpn_text_grammar.proofs.Lookahead.{lower, Anything, Fills, Near, Look, returns, nests, Looks, Starts, Meets, bind_fills, fills_as, first_looks, first_reads, in_turn as look_in_turn, passed, start_fills, starts_on}
-use Rattle.kpn_text_grammar.proofs.Steps.{bind_ok, bound, by_test, first_is_one, moved, no_value, ok_is, second_is_two, token_operator_is}
-use Rattle.kpn_text_grammar.proofs.Readers.{this_mark, RowLaws, Seen, Row, ReaderBy, as_seen, begins, given, narrow, done, behind, value, bind, bind_by, mapped, guarded, an_operator, either, spell_either, Either, choose, choice_seen, passed_fills, optional, Arm, arm, no_arm, first_token}
-use Rattle.kpn_text_grammar.proofs.TightLaws.{operator_takes, is_index, no_question, some_loosest, below_loosest, below_operand, right_below, left_below, left_is_tight, right_is_tighter, is_tight, first_tightness, at_bracket, at_close, at_question, at_colon, operator_first, no_index, looser_first, stops_first, Fits, fits_of, goes_of}
+use Rattle.kpn_text_grammar.proofs.Steps.{IsBetween, bind_ok, bound, by_form, by_test, called_back, called_is, first_is_one, moved, no_value, ok_is, second_is_two, token_operator_between, token_operator_is}
+use Rattle.kpn_text_grammar.proofs.Readers.{this_mark, RowLaws, Seen, Row, ReaderBy, as_seen, begins, given, narrow, done, behind, value, bind, bind_by, mapped, guarded, an_operator, either, spell_either, Either, choose, As, Unless, choice, choice_seen, passed_fills, optional, recast, Arm, arm, no_arm, first_token}
+use Rattle.kpn_text_grammar.proofs.TightLaws.{operator_stands, operator_takes, no_question, some_loosest, below_loosest, below_operand, right_below, left_below, left_is_tight, right_is_tighter, is_tight, first_tightness, at_bracket, at_close, at_comma, at_question, at_colon, operator_first, not_opened, looser_first, stops_first, Fits, fits_of, goes_of}
 
 -- ---- operators behind a left side
 
@@ -102,9 +103,10 @@ tight_longer (as_minus h) = omega (arith, tight_longer h)
 tight_longer (as_negation h) = omega (arith, tight_longer h)
 tight_longer (as_complement h) = omega (arith, tight_longer h)
 tight_longer (in_parentheses two h) = omega (arith, tight_longer h)
-tight_longer (as_sides one ha hb) = omega (arith, tight_longer ha, tight_longer hb)
+tight_longer (as_call two named ha hb) = omega (arith, tight_longer ha, tight_longer hb)
+tight_longer (as_sides one between ha hb) = omega (arith, tight_longer ha, tight_longer hb)
 tight_longer (as_conditional hc ha hb) = omega (arith, tight_longer hc, tight_longer ha, tight_longer hb)
-tight_longer (as_binary fits ha hb) = omega (arith, tight_longer ha, tight_longer hb)
+tight_longer (as_binary fits between ha hb) = omega (arith, tight_longer ha, tight_longer hb)
 
 -- ---- what is read is spelled so
 
@@ -138,7 +140,7 @@ module _ (s : Scope) (depth d n : ℕ) (side : ℕ → List Lexeme → Read Expr
       → TakesTight s.language depth d (right_side o) (kinds after) b rest
       → TakesBound s.language depth (suc d) (tightness o) tokens (binary o left b) rest
   one_more bound tokens left ls o after b rest fits t sign room right = record {
-    spelled = λ k le. as_binary le (subst (λ (ts : List Token). SpellsTight s.language depth (left_side o) left tokens ts) sign
+    spelled = λ k le. as_binary le fits.between (subst (λ (ts : List Token). SpellsTight s.language depth (left_side o) left tokens ts) sign
         (t.spelled (left_side o) fits.left)) right.spelled;
     level = omega (arith, room, right.level);
   }
@@ -165,7 +167,7 @@ module _ (s : Scope) (depth d n : ℕ) (side : ℕ → List Lexeme → Read Expr
       let o = bind_ok (operator s ls) _ (e, rest) m in
       let b = bind_ok (side (right_side o.0.0) o.0.1) _ (e, rest) o.2 in
       let sign = operator_takes s ls o.0.0 o.0.1 o.1 in
-      let fits = fits_of n bound ls o.0.0 (kinds o.0.1) sign there in
+      let fits = fits_of n bound ls o.0.0 (kinds o.0.1) sign (operator_stands s ls o.0.0 o.0.1 o.1) there in
       sides_take steps (tightness o.0.0) tokens (binary o.0.0 left b.0.0) b.0.1 e rest fits.tight_enough
       (one_more bound tokens left ls o.0.0 o.0.1 b.0.0 b.0.1 fits t sign
       (leb-false (suc d) (term_level left) room)
@@ -221,11 +223,14 @@ few_levels (as_complement h) tight_enough = omega (arith, few_levels h (omega ar
 few_levels (in_parentheses two h) tight_enough =
     let no : language.One ≡ language.Two = two in
     absurd cc
-few_levels (as_sides one ha hb) tight_enough =
+few_levels (as_call two named ha hb) tight_enough =
+    let no : language.One ≡ language.Two = two in
+    absurd cc
+few_levels (as_sides one between ha hb) tight_enough =
     omega (arith, few_levels ha (omega arith), few_levels hb (omega arith))
 few_levels (as_conditional hc ha hb) tight_enough =
     omega (arith, few_levels hc (omega arith), few_levels ha (omega arith), few_levels hb (omega arith))
-few_levels (as_binary {op = o} fits ha hb) tight_enough = absurd (omega (arith, fits, tight_enough, below_operand o))
+few_levels (as_binary {op = o} fits between ha hb) tight_enough = absurd (omega (arith, fits, tight_enough, below_operand o))
 
 module _ (s : Scope) (e k depth d : ℕ) (laws : ReadsTight s depth) where
   abbrev least : ℕ
@@ -270,15 +275,91 @@ module _ (s : Scope) (e k depth d : ℕ) (laws : ReadsTight s depth) where
   closes : (t : Token) (more : List Token) → first_tightness (t ∷ more) ≡ 0 → Looser least (t ∷ more)
   closes t more h = omega (arith, h, some_loosest s.language)
 
-  name_back : (x : NameBytes) (z : (Spelled × Unit {0}) ⊎ Unit {0}) (more : List Token)
+  -- behind a name: nothing, or if it calls an operator its two sides
+  abbrev Pair : Type 0
+  Pair = Spelled × (Spelled × Unit {0})
+
+  abbrev PairOf : Pair → List Token → Type 0
+  PairOf z more =
+      Part z.0.0 z.0.1 (token.Mark mark_.Comma ∷ z.1.0.1)
+      × (Part z.1.0.0 z.1.0.1 (token.Mark mark_.RightParen ∷ more) × Unit {0})
+
+  abbrev Called : Type 0
+  Called = (Op × Pair) ⊎ Unit {0}
+
+  abbrev called_tokens : Called → List Token → List Token
+  called_tokens = spell_either (λ (z : Op × Pair) more. token.Mark mark_.LeftParen ∷ z.1.0.1) (λ (u : Unit {0}) more. more)
+
+  abbrev made_by : NameBytes → Called → ExpressionNode
+  made_by x = either (λ (z : Op × Pair). binary z.0 z.1.0.0 z.1.1.0.0) (λ (u : Unit {0}). variable x)
+
+  abbrev CalledOf : Option Op → Called → List Token → Type 0
+  CalledOf found = Either (λ (z : Op × Pair) more. (found ≡ Some z.0) × PairOf z.1 more) (λ (u : Unit {0}) more. Unit {0})
+
+  call_row : (o : Op) → Row {Z = Pair} s.end Enough (λ z. binary o z.0.0 z.1.0.0)
+      (λ z more. token.Mark mark_.LeftParen ∷ z.0.1) PairOf Anything
+      (call_behind (lower s) (tight (lower s) e k least) o) (call_behind s (tight s depth d least) o)
+  unfolding call_behind
+  call_row o = behind (this_mark s mark_.LeftParen)
+      (bind inside_laws (λ a. behind (this_mark s mark_.Comma) (bind inside_laws
+      (λ b. behind (this_mark s mark_.RightParen) (done {May = Anything} (binary o a b)))
+      (λ x z more is may. closes (token.Mark mark_.RightParen) more (at_close more))))
+      (λ x z more is may. closes (token.Mark mark_.Comma) z.0.1 (at_comma z.0.1)))
+
+  abbrev made_of_pair : Op → NameBytes → Pair ⊎ Unit {0} → ExpressionNode
+  made_of_pair o x = either (λ (z : Pair). binary o z.0.0 z.1.0.0) (λ (u : Unit {0}). variable x)
+
+  abbrev pair_tokens : Pair ⊎ Unit {0} → List Token → List Token
+  pair_tokens = spell_either (λ (z : Pair) more. token.Mark mark_.LeftParen ∷ z.0.1) (λ (u : Unit {0}) more. more)
+
+  abbrev PairIf : Pair ⊎ Unit {0} → List Token → Type 0
+  PairIf = Either PairOf (λ (u : Unit {0}) more. Unit {0})
+
+  called_row : (x : NameBytes) (found : Option Op)
+      → Row {Z = Called} s.end Enough (made_by x) called_tokens (CalledOf found) (Unless (is_mark mark_.LeftParen))
+      (call_or_name (lower s) (tight (lower s) e k least) x found) (call_or_name s (tight s depth d least) x found)
+  unfolding call_or_name
+  called_row x None = recast (done (variable x)) (λ u more is. (inr tt, refl, tt, refl)) back where
+    back : (w : Called) (more : List Token) → CalledOf None w more
+        → As (made_by x) called_tokens (λ (u : Unit {0}). variable x) (λ (u : Unit {0}) more. more)
+        (λ (u : Unit {0}) more. Unit {0}) w more
+    back (inl z) more is =
+        let no : None ≡ Some z.0 = is.0 in
+        absurd cc
+    back (inr u) more is = (tt, refl, tt, refl)
+  called_row x (Some o) =
+      recast (optional (is_mark mark_.LeftParen) (variable x) (call_row o) (λ more may. (tt, may)) (λ z more is. refl))
+      there back where
+        there : (z : Pair ⊎ Unit {0}) (more : List Token) → PairIf z more
+            → As (made_of_pair o x) pair_tokens (made_by x) called_tokens (CalledOf (Some o)) z more
+        there (inl z) more is = (inl (o, z), refl, (refl, is), refl)
+        there (inr u) more is = (inr u, refl, tt, refl)
+
+        back : (w : Called) (more : List Token) → CalledOf (Some o) w more
+            → As (made_by x) called_tokens (made_of_pair o x) pair_tokens PairIf w more
+        back (inl z) more is =
+            let same : o ≡ z.0 = cc in
+            (inl z.1, ap (λ (p : Op). binary p z.1.0.0 z.1.1.0.0) same, is.1, refl)
+        back (inr u) more is = (inr u, refl, tt, refl)
+
+  -- no `[` is behind it
+  called_first : (w : Called) (more : List Token) → Ends more
+      → begins (is_mark mark_.LeftBracket) (called_tokens w more) ≡ false
+  called_first (inl z) more may = refl
+  called_first (inr u) more may = (not_opened more may).0
+
+  name_back : (x : NameBytes) (z : (Spelled × Unit {0}) ⊎ Called) (more : List Token)
       → Either (λ (z : Spelled × Unit {0}) more. Part z.0.0 z.0.1 (token.Mark mark_.RightBracket ∷ more) × Unit {0})
-      (λ (u : Unit {0}) more. Unit {0}) z more
+      (CalledOf (operator_called s.language x)) z more
       → OperandOf s.language (suc depth) (suc d)
-      (either (λ (z : Spelled × Unit {0}). element x z.0.0) (λ (u : Unit {0}). variable x) z)
+      (either (λ (z : Spelled × Unit {0}). element x z.0.0) (made_by x) z)
       (token.Name x ∷ spell_either (λ (z : Spelled × Unit {0}) more. token.Mark mark_.LeftBracket ∷ z.0.1)
-      (λ (u : Unit {0}) more. more) z more) more
+      called_tokens z more) more
   name_back x (inl z) more is = ((λ n small. as_element is.0.0), omega (arith, is.0.1))
-  name_back x (inr u) more is = ((λ n small. as_name), omega arith)
+  name_back x (inr (inl z)) more is =
+      let calls = called_is s.language x z.0 is.0 in
+      ((λ n small. as_call calls.0 calls.1 is.1.0.0 is.1.1.0.0), omega (arith, is.1.0.1, is.1.1.0.1))
+  name_back x (inr (inr u)) more is = ((λ n small. as_name), omega arith)
 
   -- behind the first expression in parentheses: `?` and two more, the end, or an operator and one more
   abbrev Choices : Type 0
@@ -302,7 +383,7 @@ module _ (s : Scope) (e k depth d : ℕ) (laws : ReadsTight s depth) where
   abbrev RightOf : ExpressionNode → Right → List Token → Type 0
   RightOf c z more =
       (nat_le (suc d) (term_level c) ≡ false)
-      × (Unit {0} × (Part z.1.0.0 z.1.0.1 (token.Mark mark_.RightParen ∷ more) × Unit {0}))
+      × (IsBetween z.0 × (Part z.1.0.0 z.1.0.1 (token.Mark mark_.RightParen ∷ more) × Unit {0}))
 
   abbrev InsideOf : ExpressionNode → Inside → List Token → Type 0
   InsideOf c = Either (λ (z : Choices) more. (nat_le (suc d) (term_level c) ≡ false)
@@ -317,7 +398,7 @@ module _ (s : Scope) (e k depth d : ℕ) (laws : ReadsTight s depth) where
   inside_looser c (inr (inl u)) more is = closes (token.Mark mark_.RightParen) more (at_close more)
   inside_looser c (inr (inr z)) more is =
       let one : least ≡ OPERAND = ap loosest is.0 in
-      omega (arith, operator_first z.0 z.1.0.1, below_operand z.0, one)
+      omega (arith, operator_first z.0 z.1.0.1 is.1.1.0, below_operand z.0, one)
 
   inside_back : (c : Spelled) (z : Inside) (more : List Token)
       → Tight s.language depth (suc d) least c.0 c.1 (inside_tokens z more) → InsideOf c.0 z more
@@ -332,7 +413,7 @@ module _ (s : Scope) (e k depth d : ℕ) (laws : ReadsTight s depth) where
     first.1,
   )
   inside_back c (inr (inr z)) more first is = (
-    (λ n small. as_sides is.0 (subst (λ (l : Language). SpellsTight s.language depth (loosest l) c.0 c.1
+    (λ n small. as_sides is.0 is.1.1.0 (subst (λ (l : Language). SpellsTight s.language depth (loosest l) c.0 c.1
         (token.Mark (operator_mark z.0) ∷ z.1.0.1)) is.0 first.0)
         (subst (λ (l : Language). SpellsTight s.language depth (loosest l) z.1.0.0 z.1.0.1
         (token.Mark mark_.RightParen ∷ more)) is.0 is.1.1.1.0.0)),
@@ -348,7 +429,7 @@ module _ (s : Scope) (e k depth d : ℕ) (laws : ReadsTight s depth) where
 
   right_row : (c : ExpressionNode) → Row {Z = Right} s.end Enough (λ z. binary z.0 c z.1.0.0)
       (λ z more. token.Mark (operator_mark z.0) ∷ z.1.0.1)
-      (λ z more. Unit {0} × (Part z.1.0.0 z.1.0.1 (token.Mark mark_.RightParen ∷ more) × Unit {0})) Anything
+      (λ z more. IsBetween z.0 × (Part z.1.0.0 z.1.0.1 (token.Mark mark_.RightParen ∷ more) × Unit {0})) Anything
       (binary_behind (lower s) (tight (lower s) e k least) c) (binary_behind s (tight s depth d least) c)
   unfolding binary_behind
   right_row c = value (an_operator s) (λ o. bind inside_laws
@@ -435,6 +516,17 @@ module _ (s : Scope) (e k depth d : ℕ) (laws : ReadsTight s depth) where
       let is = subst (λ (l : Language). SpellsTight l depth (loosest l) t.0.0 t.0.1 (kinds rest)) one t.2.0 in
       omega (arith, few_levels is (omega arith), so.first one, ap term_level t.1)
 
+  element_row : (x : NameBytes) → Row {Z = Spelled × Unit {0}} s.end Enough (λ z. element x z.0.0)
+      (λ z more. token.Mark mark_.LeftBracket ∷ z.0.1)
+      (λ z more. Part z.0.0 z.0.1 (token.Mark mark_.RightBracket ∷ more) × Unit {0}) Anything
+      (λ ls. and_then (mark (lower s) mark_.LeftBracket ls) (λ inside. and_then (tight (lower s) e k least inside)
+      (λ i. and_then (mark (lower s) mark_.RightBracket i.1) (λ rest. Ok (element x i.0, rest)))))
+      (λ ls. and_then (mark s mark_.LeftBracket ls) (λ inside. and_then (tight s depth d least inside)
+      (λ i. and_then (mark s mark_.RightBracket i.1) (λ rest. Ok (element x i.0, rest)))))
+  element_row x = behind (this_mark s mark_.LeftBracket) (bind inside_laws
+      (λ i. behind (this_mark s mark_.RightBracket) (done {May = Anything} (element x i)))
+      (λ y z more is may. closes (token.Mark mark_.RightBracket) more (at_bracket more)))
+
   operand_arms : (t : Token)
       → Arm s.end Enough (OperandOf s.language (suc depth) (suc d)) Ends t
       (tight_operand (lower s) (tight (lower s) e) k t)
@@ -443,10 +535,9 @@ module _ (s : Scope) (e k depth d : ℕ) (laws : ReadsTight s depth) where
   operand_arms (token.Number k) =
       arm (λ start. done (numeral k)) (λ z more is. ((λ n small. as_number), omega arith))
   operand_arms (token.Name x) =
-      arm (λ start. optional is_index (variable x) (behind (this_mark s mark_.LeftBracket) (bind inside_laws
-      (λ e. behind (this_mark s mark_.RightBracket) (done {May = Anything} (element x e)))
-      (λ x z more is may. closes (token.Mark mark_.RightBracket) more (at_bracket more))))
-      (λ more may. (tt, no_index more may)) (λ z more is. refl)) (name_back x)
+      arm (λ start. choice (is_mark mark_.LeftBracket) (as_seen (narrow (element_row x) (λ more may. tt)))
+      (narrow (called_row x (operator_called s.language x)) (λ more may. (not_opened more may).1))
+      (λ z more is may. refl) (λ w more is may. called_first w more may)) (name_back x)
   operand_arms (token.Mark mark_.Minus) =
       arm (λ start. mapped (λ e. minus e) (part OPERAND (omega arith) (λ one. omega arith)) looser_first)
       (λ z more is. ((λ n small. as_minus is.0), omega (arith, is.1)))
@@ -519,7 +610,7 @@ module _ (s : Scope) (e k depth d : ℕ) (laws : ReadsTight s depth) where
     reads_on (as_number {n = k} {k = value} {more}) n ls small tight_enough level ends h =
         operand_on n k (token.Number value, tt) more ls small tt (omega (arith, small, ends)) h
     reads_on (as_name {n = k} {x} {more}) n ls small tight_enough level ends h =
-        operand_on n k (token.Name x, inr tt) more ls small tt (omega (arith, small, ends)) h
+        operand_on n k (token.Name x, inr (inr tt)) more ls small tt (omega (arith, small, ends)) h
     reads_on (as_element {n = k} {x} {e} {tokens} {more} he) n ls small tight_enough level ends h =
         operand_on n k (token.Name x, inl ((e, tokens), tt)) more ls small ((he, omega (arith, level)), tt)
         (omega (arith, small, ends)) h
@@ -541,7 +632,14 @@ module _ (s : Scope) (e k depth d : ℕ) (laws : ReadsTight s depth) where
           ),
           two,
         ) (omega (arith, small, ends)) h
-    reads_on (as_sides {n = k} {op = o} {a} {b} {at_a} {at_b} {more} one ha hb) n ls small tight_enough level ends h =
+    reads_on (as_call {n = k} {op = o} {x} {a} {b} {at_a} {at_b} {more} two named ha hb) n ls small tight_enough level ends
+        h =
+        operand_on n k (token.Name x, inr (inl (o, ((a, at_a), ((b, at_b), tt))))) more ls small (
+          ap (λ (l : Language). operator_called l x) two ∙ called_back o x named,
+          ((ha, omega (arith, level)), ((hb, omega (arith, level)), tt)),
+        ) (omega (arith, small, ends)) h
+    reads_on (as_sides {n = k} {op = o} {a} {b} {at_a} {at_b} {more} one between ha hb) n ls small tight_enough level ends
+        h =
         operand_on n k (token.Mark mark_.LeftParen, ((a, at_a), inr (inr (o, ((b, at_b), tt))))) more ls small (
           (
             subst (λ (l : Language). SpellsTight s.language depth (loosest l) a at_a (token.Mark (operator_mark o) ∷ at_b))
@@ -553,7 +651,7 @@ module _ (s : Scope) (e k depth d : ℕ) (laws : ReadsTight s depth) where
             (
               lt-leb (suc d) (term_level a) (omega (arith, level)),
               (
-                tt,
+                between,
                 (
                   (
                     subst (λ (l : Language). SpellsTight s.language depth (loosest l) b at_b (token.Mark mark_.RightParen ∷ more))
@@ -575,14 +673,15 @@ module _ (s : Scope) (e k depth d : ℕ) (laws : ReadsTight s depth) where
             ((ha, omega (arith, level)), ((hb, omega (arith, level)), tt)),
           ),
         ) (omega (arith, small, ends)) h
-    reads_on (as_binary {n = k} {op = o} {a} {b} {at_a} {at_b} {more} fits ha hb) n ls small tight_enough level ends h =
-        let beside : first_tightness (token.Mark (operator_mark o) ∷ at_b) ≡ tightness o = operator_first o at_b in
+    reads_on (as_binary {n = k} {op = o} {a} {b} {at_a} {at_b} {more} fits between ha hb) n ls small tight_enough level ends
+        h =
+        let beside : first_tightness (token.Mark (operator_mark o) ∷ at_b) ≡ tightness o = operator_first o at_b between in
         let ra = reads_on ha n ls (left_below o) (omega (arith, left_is_tight o)) (omega (arith, level))
         (omega (arith, beside, left_is_tight o)) h in
-        let sign = (an_operator {ok = Unit {0}} s).laws.again ra.rest o at_b tt tt ra.after in
+        let sign = (an_operator {ok = Unit {0}} s).laws.again ra.rest o at_b between tt ra.after in
         let rb = (sides (right_side o) (right_below o)).again sign.0 (b, at_b) more (hb, omega (arith, level))
         (omega (arith, ends, right_is_tighter o)) sign.2 in
-        let goes = goes_of n ra.bound ra.rest o at_b ra.after (record { tight_enough = omega arith; left = ra.binds }) in
+        let goes = goes_of n ra.bound ra.rest o at_b ra.after (record { tight_enough = omega arith; left = ra.binds; between = between }) in
         record {
           bound = tightness o;
           rest = rb.0;
@@ -595,7 +694,7 @@ module _ (s : Scope) (e k depth d : ℕ) (laws : ReadsTight s depth) where
 -- ---- expressions by their depth and their levels
 
 no_depth : {l : Language} {n : ℕ} {e : ExpressionNode} {tokens more : List Token} → SpellsTight l 0 n e tokens more → ⊥
-no_depth (as_binary fits ha hb) = no_depth ha
+no_depth (as_binary fits between ha hb) = no_depth ha
 
 deep_takes : (s : Scope) (ls : List Lexeme) (e : ExpressionNode) (rest : List Lexeme)
     → and_then {B = ExpressionNode × List Lexeme} (next s ls) (λ x. Err (level_fault s x.0)) ≡ Ok (e, rest) → ⊥
@@ -629,7 +728,8 @@ sign_of n bound (l ∷ ls) h = by (token_operator l.token) refl where
     whole = refl;
     found = e;
     goes = h;
-    fits = fits_of n bound (l ∷ ls) o (kinds ls) (ap (λ (t : Token). t ∷ kinds ls) (token_operator_is l.token o e)) h;
+    fits = fits_of n bound (l ∷ ls) o (kinds ls) (ap (λ (t : Token). t ∷ kinds ls) (token_operator_is l.token o e))
+        (token_operator_between l.token o e) h;
   }
 
 operator_at : (s : Scope) (l : Lexeme) (ls : List Lexeme) (o : Op) → token_operator l.token ≡ Some o
@@ -653,7 +753,7 @@ sides_meet s side levels n steps bound left ts rest y small h may = by (first_is
       omega (
         arith,
         ap first_tightness is,
-        operator_first sign.op (kinds sign.rest),
+        operator_first sign.op (kinds sign.rest) sign.fits.between,
         left_is_tight sign.op,
         sign.fits.left,
       )
@@ -963,33 +1063,46 @@ canonical_tight (negation e) (suc depth) n more level =
 canonical_tight (complement e) (suc depth) n more level =
     as_complement (canonical_tight e depth OPERAND more (omega (arith, level)))
 canonical_tight (binary o a b) (suc depth) n more level =
-    spell_binary (suc depth) n o a b _ _ more
-    (λ fits. as_binary fits (canonical_tight a (suc depth) (left_side o) _ (omega (arith, level)))
+    by_form (λ (ts : List Token). SpellsTight language.Two (suc depth) n (binary o a b) ts more) (operator_name o) _ _
+    (λ x named. as_call refl named (canonical_tight a depth LOOSEST _ (omega (arith, level)))
+    (canonical_tight b depth LOOSEST _ (omega (arith, level))))
+    (λ between. spell_binary (suc depth) n o a b _ _ more
+    (λ fits. as_binary fits between (canonical_tight a (suc depth) (left_side o) _ (omega (arith, level)))
     (canonical_tight b (suc depth) (right_side o) more (omega (arith, level))))
-    (in_parentheses refl (as_binary (is_tight o) (canonical_tight a depth (left_side o) _ (omega (arith, level)))
-    (canonical_tight b depth (right_side o) (token.Mark mark_.RightParen ∷ more) (omega (arith, level)))))
+    (in_parentheses refl (as_binary (is_tight o) between (canonical_tight a depth (left_side o) _ (omega (arith, level)))
+    (canonical_tight b depth (right_side o) (token.Mark mark_.RightParen ∷ more) (omega (arith, level))))))
 canonical_tight (conditional c a b) (suc depth) n more level =
     as_conditional (canonical_tight c depth LOOSEST _ (omega (arith, level)))
     (canonical_tight a depth LOOSEST _ (omega (arith, level)))
     (canonical_tight b depth LOOSEST _ (omega (arith, level)))
 
--- the same in language 1
-pub canonical_term : (e : ExpressionNode) (depth n : ℕ) (more : List Token) → term_level e ≤ depth
+-- the same in language 1, of what can be spelled
+pub canonical_term : {m k : ℕ} {e : ExpressionNode} {tokens others : List Token}
+    → SpellsTight language.One m k e tokens others → (depth n : ℕ) (more : List Token) → term_level e ≤ depth
     → SpellsTight language.One depth n e (spell_term e more) more
-canonical_term e zero n more level = absurd (some_level e level)
-canonical_term (numeral k) (suc depth) n more level = as_number
-canonical_term (variable x) (suc depth) n more level = as_name
-canonical_term (element x e) (suc depth) n more level =
-    as_element (canonical_term e depth OPERAND _ (omega (arith, level)))
-canonical_term (minus e) (suc depth) n more level = as_minus (canonical_term e depth OPERAND more (omega (arith, level)))
-canonical_term (negation e) (suc depth) n more level =
-    as_negation (canonical_term e depth OPERAND more (omega (arith, level)))
-canonical_term (complement e) (suc depth) n more level =
-    as_complement (canonical_term e depth OPERAND more (omega (arith, level)))
-canonical_term (binary o a b) (suc depth) n more level =
-    as_sides refl (canonical_term a depth OPERAND _ (omega (arith, level)))
-    (canonical_term b depth OPERAND _ (omega (arith, level)))
-canonical_term (conditional c a b) (suc depth) n more level =
-    as_conditional (canonical_term c depth OPERAND _ (omega (arith, level)))
-    (canonical_term a depth OPERAND _ (omega (arith, level)))
-    (canonical_term b depth OPERAND _ (omega (arith, level)))
+canonical_term {e = e} h zero n more level = absurd (some_level e level)
+canonical_term as_number (suc depth) n more level = as_number
+canonical_term as_name (suc depth) n more level = as_name
+canonical_term (as_element h) (suc depth) n more level =
+    as_element (canonical_term h depth OPERAND _ (omega (arith, level)))
+canonical_term (as_minus h) (suc depth) n more level = as_minus (canonical_term h depth OPERAND more (omega (arith, level)))
+canonical_term (as_negation h) (suc depth) n more level =
+    as_negation (canonical_term h depth OPERAND more (omega (arith, level)))
+canonical_term (as_complement h) (suc depth) n more level =
+    as_complement (canonical_term h depth OPERAND more (omega (arith, level)))
+canonical_term (in_parentheses two h) (suc depth) n more level =
+    let no : language.One ≡ language.Two = two in
+    absurd cc
+canonical_term (as_call two named ha hb) (suc depth) n more level =
+    let no : language.One ≡ language.Two = two in
+    absurd cc
+canonical_term (as_sides one between ha hb) (suc depth) n more level =
+    as_sides refl between (canonical_term ha depth OPERAND _ (omega (arith, level)))
+    (canonical_term hb depth OPERAND _ (omega (arith, level)))
+canonical_term (as_conditional hc ha hb) (suc depth) n more level =
+    as_conditional (canonical_term hc depth OPERAND _ (omega (arith, level)))
+    (canonical_term ha depth OPERAND _ (omega (arith, level)))
+    (canonical_term hb depth OPERAND _ (omega (arith, level)))
+canonical_term (as_binary fits between ha hb) (suc depth) n more level =
+    as_sides refl between (canonical_term ha depth OPERAND _ (omega (arith, level)))
+    (canonical_term hb depth OPERAND _ (omega (arith, level)))

@@ -30,8 +30,9 @@ expression_of s has =
       tight = λ one. subst (λ (l : Language). OPERAND ≤ loosest l) (sym one) (omega arith);
     })
 
--- the canonical spelling is one
+-- the canonical spelling is one, if there is one
 pub canonical_expression : (l : Language) (e : ExpressionNode) (more : List Token) → term_level e ≤ MAX_LEVELS
+    → {tokens others : List Token} → SpellsTerm MAX_LEVELS l e tokens others
     → SpellsTerm MAX_LEVELS l e (spell_expression l e more) more
-canonical_expression language.One e more level = canonical_term e MAX_LEVELS OPERAND more level
-canonical_expression language.Two e more level = canonical_tight e MAX_LEVELS LOOSEST more level
+canonical_expression language.One e more level h = canonical_term h MAX_LEVELS OPERAND more level
+canonical_expression language.Two e more level h = canonical_tight e MAX_LEVELS LOOSEST more level

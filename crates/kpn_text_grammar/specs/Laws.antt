@@ -1,12 +1,13 @@
 -- The laws of reading, on which the layers above depend: reading returns what is spelled, and that is one thing. What
 -- is printed is spelled.
 use Rattle.std.specs.Prelude.{◌≡◌, ◌↔◌, ◌≤◌, ℕ, suc, List, [], ◌∷◌, ◌++◌, take, Ok}
+use Rattle.std.specs.List.{AllByRecursion}
 use Rattle.kpn_limits.specs.declared.TheConstants.{MAX_LEVELS}
 use Rattle.kpn_text_tokens.specs.declared.tokens.Language.{Language}
 use Rattle.kpn_text_tokens.specs.declared.tokens.Lexeme.{Lexeme}
 use Rattle.kpn_text_tokens.specs.declared.tokens.Token.{Token}
-use Rattle.kpn_text_grammar.specs.Syntax.{Description}
-use Rattle.kpn_text_grammar.specs.Spelling.{kinds, spell_description, IsWithinLimits, IsDescriptionWithin, IsDescription}
+use Rattle.kpn_text_grammar.specs.Syntax.{Description, Statements}
+use Rattle.kpn_text_grammar.specs.Spelling.{kinds, spell_description, SpellsStatements, IsWithinLimits, IsDescriptionWithin, IsDescription}
 use Rattle.kpn_text_grammar.specs.Reading.{description_of}
 
 -- Tokens are read as a description if and only if they spell it within the limits, wherever they are in the text.
@@ -20,10 +21,15 @@ SpelledOnce =
     (l : Language) (tokens : List Token) (d e : Description) → IsDescription l tokens d → IsDescription l tokens e
     → d ≡ e
 
--- The canonical spelling of a description within the limits spells it.
+-- Some tokens spell a block. In language 1 none do if it has an operator that is called.
+abbrev pub CanBeSpelled : Language → Statements → Type 0
+CanBeSpelled l b = (tokens : List Token) × (more : List Token) × SpellsStatements MAX_LEVELS l b tokens more
+
+-- The canonical spelling of a description within the limits spells it, if its blocks can be spelled at all.
 abbrev pub CanonicalSpells : Type 0
 CanonicalSpells =
-    (l : Language) (d : Description) → IsWithinLimits MAX_LEVELS d → IsDescription l (spell_description l d) d
+    (l : Language) (d : Description) → IsWithinLimits MAX_LEVELS d
+    → AllByRecursion (λ p. CanBeSpelled l p.body) d.processes → IsDescription l (spell_description l d) d
 
 -- the byte of a fault in front of these tokens: where the first one begins, or the length of the text
 abbrev pub fault_place : ℕ → List Lexeme → ℕ

@@ -1,6 +1,8 @@
--- The operators of the process language and the marks that stand for them: one table, for reading and for printing.
-use Rattle.std.specs.Prelude.{ℕ, suc, Bool, true, false, if◌then◌else◌, List, [], ◌∷◌, Option}
+-- The operators of the process language and the marks and names that stand for them: one table, for reading and for
+-- printing.
+use Rattle.std.specs.Prelude.{ℕ, suc, Bool, true, false, if◌then◌else◌, List, [], ◌∷◌, codes, Option, Some, None}
 use Rattle.std.specs.List.{find}
+use Rattle.std.specs.Str.{bytes_eq}
 use Rattle.kpn_lang.specs.declared.syntax.Op.{Op}
 use Rattle.kpn_lang.specs.declared.syntax.Op.TheVariants as op
 use Rattle.kpn_text_tokens.specs.declared.tokens.Language.{Language}
@@ -8,8 +10,9 @@ use Rattle.kpn_text_tokens.specs.declared.tokens.Language.TheVariants as languag
 use Rattle.kpn_text_tokens.specs.declared.tokens.Mark.{Mark}
 use Rattle.kpn_text_tokens.specs.declared.tokens.Mark.TheVariants as mark
 use Rattle.kpn_text_grammar.specs.TokenTests.{same_mark}
+use Rattle.kpn_text_grammar.specs.Syntax.{NameBytes}
 
--- the mark that stands for an operator
+-- the mark between the sides of an operator
 abbrev pub operator_mark : Op → Mark
 operator_mark op.Add = mark.Plus
 operator_mark op.Sub = mark.Minus
@@ -29,15 +32,33 @@ operator_mark op.BitOr = mark.BitOr
 operator_mark op.BitXor = mark.BitXor
 operator_mark op.Shl = mark.ShiftLeft
 operator_mark op.Shr = mark.ShiftRight
+operator_mark op.Min = mark.Comma
+operator_mark op.Max = mark.Comma
 
-abbrev pub every_operator : List Op
-every_operator =
+-- the name of an operator that is called: min(a, b), max(a, b)
+abbrev pub operator_name : Op → Option NameBytes
+operator_name op.Min = Some (codes "min")
+operator_name op.Max = Some (codes "max")
+operator_name _ = None
+
+-- those that stand between their sides
+abbrev pub operators_between : List Op
+operators_between =
     op.Add ∷ op.Sub ∷ op.Mul ∷ op.Div ∷ op.Rem ∷ op.Lt ∷ op.Le ∷ op.Gt ∷ op.Ge ∷ op.Eq ∷ op.Ne ∷ op.And ∷ op.Or
     ∷ op.BitAnd ∷ op.BitOr ∷ op.BitXor ∷ op.Shl ∷ op.Shr ∷ []
 
--- the operator that a mark stands for, if it stands for one
+-- the operator that a mark between two expressions stands for, if it stands for one
 unfoldable pub operator_of : Mark → Option Op
-operator_of m = find (λ o. same_mark (operator_mark o) m) every_operator
+operator_of m = find (λ o. same_mark (operator_mark o) m) operators_between
+
+abbrev pub is_named : NameBytes → Option NameBytes → Bool
+is_named x (Some y) = bytes_eq y x
+is_named x None = false
+
+-- the operator that a name with `(` behind it calls, if it calls one
+unfoldable pub operator_called : Language → NameBytes → Option Op
+operator_called language.One x = None
+operator_called language.Two x = find (λ o. is_named x (operator_name o)) (op.Min ∷ op.Max ∷ [])
 
 -- ---- precedence
 
@@ -50,7 +71,8 @@ is_comparison op.Eq = true
 is_comparison op.Ne = true
 is_comparison _ = false
 
--- how tight an operator binds, from 1 for the one that binds loosest
+-- How tight an operator binds, from 1 for the one that binds loosest. One that is called is an operand, whatever this
+-- says.
 abbrev pub tightness : Op → ℕ
 tightness op.Or = 1
 tightness op.And = 2
@@ -70,6 +92,8 @@ tightness op.Sub = 8
 tightness op.Mul = 9
 tightness op.Div = 9
 tightness op.Rem = 9
+tightness op.Min = 9
+tightness op.Max = 9
 
 -- how tight any expression binds at least, a side of a comparison, and an operand, which binds tighter than each
 -- operator

@@ -18,7 +18,7 @@ use Rattle.kpn_text_grammar.specs.declared.fault.GrammarFault.{GrammarFault}
 use Rattle.kpn_text_grammar.specs.declared.fault.GrammarFault.TheVariants as fault
 use Rattle.kpn_text_grammar.specs.declared.parser.Scope.{Scope}
 use Rattle.kpn_text_grammar.specs.TokenTests.{is_mark, is_keyword, is_number_two, is_name}
-use Rattle.kpn_text_grammar.specs.Operators.{operator_of, tightness, left_side, right_side, OPERAND, loosest}
+use Rattle.kpn_text_grammar.specs.Operators.{operator_called, operator_of, tightness, left_side, right_side, OPERAND, loosest}
 use Rattle.kpn_text_grammar.specs.Spelling.{term_level}
 use Rattle.kpn_text_grammar.specs.Words.{growth_spelled, policy_spelled}
 use Rattle.kpn_text_grammar.specs.Syntax.{NameBytes, ExpressionNode, numeral, variable, element, minus, negation, complement, binary, conditional, StatementNode, assign, store, receive, send, choice, loop, Statements, no_statements, statement, as_statements, Literal, plain, negated, Table, Declaration, array, table, ProcessNode, InstanceNode, Item, channel, source, sink, instance, NetworkNode, Description}
@@ -123,7 +123,24 @@ separated s one ls = do
 unfoldable pub optional_names : Scope → List Lexeme → Read (List NameBytes)
 optional_names s ls = if first_is is_name ls then separated s (name s) ls else Ok ([], ls)
 
--- a name or an element, by a parser of the index
+-- `(`, the two sides with a comma between them, and `)`, behind the name of an operator
+unfoldable pub call_behind : Scope → (List Lexeme → Read ExpressionNode) → Op → List Lexeme → Read ExpressionNode
+call_behind s inner op ls = do
+  inside ← mark s mark_.LeftParen ls
+  a ← inner inside
+  other ← mark s mark_.Comma a.1
+  b ← inner other
+  rest ← mark s mark_.RightParen b.1
+  Ok (binary op a.0 b.0, rest)
+
+-- a name, or the operator that it calls if `(` is behind it
+unfoldable pub call_or_name : Scope → (List Lexeme → Read ExpressionNode) → NameBytes → Option Op → List Lexeme
+    → Read ExpressionNode
+call_or_name s inner x None ls = Ok (variable x, ls)
+call_or_name s inner x (Some op) ls =
+    if first_is (is_mark mark_.LeftParen) ls then call_behind s inner op ls else Ok (variable x, ls)
+
+-- a name, a call or an element, by a parser of what stands inside
 unfoldable pub behind_name : Scope → (List Lexeme → Read ExpressionNode) → NameBytes → List Lexeme → Read ExpressionNode
 behind_name s inner x ls =
     if first_is (is_mark mark_.LeftBracket) ls
@@ -132,7 +149,7 @@ behind_name s inner x ls =
       e ← inner inside
       rest ← mark s mark_.RightBracket e.1
       Ok (element x e.0, rest))
-    else Ok (variable x, ls)
+    else call_or_name s inner x (operator_called s.language x) ls
 
 -- ---- expressions, by parsers of those inside
 

@@ -15,7 +15,7 @@ use Rattle.kpn_text_tokens.specs.declared.tokens.Keyword.TheVariants as keyword
 use Rattle.kpn_lang.specs.declared.syntax.Op.{Op}
 use Rattle.kpn_net.specs.declared.tables.Growth.{Growth}
 use Rattle.kpn_net.specs.declared.tables.Policy.{Policy}
-use Rattle.kpn_text_grammar.specs.Operators.{operator_mark, tightness, left_side, right_side, LOOSEST, OPERAND, loosest}
+use Rattle.kpn_text_grammar.specs.Operators.{operator_mark, operator_name, tightness, left_side, right_side, LOOSEST, OPERAND, loosest}
 use Rattle.kpn_text_grammar.specs.TokenTests.{is_keyword}
 use Rattle.kpn_text_grammar.specs.Words.{growth_word, policy_word}
 use Rattle.kpn_text_grammar.specs.Syntax.{NameBytes, ExpressionNode, numeral, variable, element, minus, negation, complement, binary, conditional, StatementNode, assign, store, receive, send, choice, loop, Statements, no_statements, statement, Literal, plain, negated, Table, Declaration, array, table, ProcessNode, InstanceNode, Item, channel, source, sink, instance, NetworkNode, Description}
@@ -42,8 +42,13 @@ spell_term (conditional c a b) more =
     token.Mark mark.LeftParen ∷ spell_term c (token.Mark mark.Question
     ∷ spell_term a (token.Mark mark.Colon ∷ spell_term b (token.Mark mark.RightParen ∷ more)))
 
+-- by the name of an operator, if it is called, or else another way
+abbrev pub by_name : {A : Type 0} → Option NameBytes → (NameBytes → A) → A → A
+by_name (Some x) called between = called x
+by_name None called between = between
+
 -- In language 2, where an expression has to bind as tight as this: the same, with parentheses around an operator only
--- if it binds looser.
+-- if it binds looser, and behind its name if it is called.
 abbrev pub spell_tight : ℕ → ExpressionNode → List Token → List Token
 spell_tight n (numeral k) more = token.Number k ∷ more
 spell_tight n (variable x) more = token.Name x ∷ more
@@ -53,10 +58,12 @@ spell_tight n (minus e) more = token.Mark mark.Minus ∷ spell_tight OPERAND e m
 spell_tight n (negation e) more = token.Mark mark.Not ∷ spell_tight OPERAND e more
 spell_tight n (complement e) more = token.Mark mark.BitNot ∷ spell_tight OPERAND e more
 spell_tight n (binary op a b) more =
-    if nat_le n (tightness op)
+    by_name (operator_name op) (λ x. token.Name x ∷ token.Mark mark.LeftParen
+    ∷ spell_tight LOOSEST a (token.Mark mark.Comma ∷ spell_tight LOOSEST b (token.Mark mark.RightParen ∷ more)))
+    (if nat_le n (tightness op)
     then spell_tight (left_side op) a (token.Mark (operator_mark op) ∷ spell_tight (right_side op) b more)
     else (token.Mark mark.LeftParen ∷ spell_tight (left_side op) a (token.Mark (operator_mark op)
-    ∷ spell_tight (right_side op) b (token.Mark mark.RightParen ∷ more)))
+    ∷ spell_tight (right_side op) b (token.Mark mark.RightParen ∷ more))))
 spell_tight n (conditional c a b) more =
     token.Mark mark.LeftParen ∷ spell_tight LOOSEST c (token.Mark mark.Question
     ∷ spell_tight LOOSEST a (token.Mark mark.Colon ∷ spell_tight LOOSEST b (token.Mark mark.RightParen ∷ more)))
@@ -86,8 +93,13 @@ pub data SpellsTight (l : Language) : (depth n : ℕ) → ExpressionNode → Lis
   in_parentheses : {depth n : ℕ} {e : ExpressionNode} {tokens more : List Token} → l ≡ language.Two
       → SpellsTight l depth LOOSEST e tokens (token.Mark mark.RightParen ∷ more)
       → SpellsTight l (suc depth) n e (token.Mark mark.LeftParen ∷ tokens) more
+  as_call : {depth n : ℕ} {op : Op} {x : NameBytes} {a b : ExpressionNode} {at_a at_b more : List Token}
+      → l ≡ language.Two → operator_name op ≡ Some x
+      → SpellsTight l depth (loosest l) a at_a (token.Mark mark.Comma ∷ at_b)
+      → SpellsTight l depth (loosest l) b at_b (token.Mark mark.RightParen ∷ more)
+      → SpellsTight l (suc depth) n (binary op a b) (token.Name x ∷ token.Mark mark.LeftParen ∷ at_a) more
   as_sides : {depth n : ℕ} {op : Op} {a b : ExpressionNode} {at_a at_b more : List Token} → l ≡ language.One
-      → SpellsTight l depth OPERAND a at_a (token.Mark (operator_mark op) ∷ at_b)
+      → operator_name op ≡ None → SpellsTight l depth OPERAND a at_a (token.Mark (operator_mark op) ∷ at_b)
       → SpellsTight l depth OPERAND b at_b (token.Mark mark.RightParen ∷ more)
       → SpellsTight l (suc depth) n (binary op a b) (token.Mark mark.LeftParen ∷ at_a) more
   as_conditional : {depth n : ℕ} {c a b : ExpressionNode} {at_c at_a at_b more : List Token}
@@ -96,7 +108,7 @@ pub data SpellsTight (l : Language) : (depth n : ℕ) → ExpressionNode → Lis
       → SpellsTight l depth (loosest l) b at_b (token.Mark mark.RightParen ∷ more)
       → SpellsTight l (suc depth) n (conditional c a b) (token.Mark mark.LeftParen ∷ at_c) more
   as_binary : {depth n : ℕ} {op : Op} {a b : ExpressionNode} {at_a at_b more : List Token} → n ≤ tightness op
-      → SpellsTight l depth (left_side op) a at_a (token.Mark (operator_mark op) ∷ at_b)
+      → operator_name op ≡ None → SpellsTight l depth (left_side op) a at_a (token.Mark (operator_mark op) ∷ at_b)
       → SpellsTight l depth (right_side op) b at_b more
       → SpellsTight l depth n (binary op a b) at_a more
 

@@ -8,9 +8,10 @@ ghost use Rattle.kpn_text_grammar.specs.Spelling.{term_level};
 ghost use Rattle.kpn_text_grammar.specs.View.{HasLevels, Parses, term};
 
 use crate::fault::GrammarFault;
-use crate::operators::{OPERAND, loosest, right_side, tightness};
+use crate::operators::{OPERAND, loosest, operator_called, right_side, tightness};
 use crate::parser::{Read, Scope, Source, at_mark, goes_further, is_second, mark, next, operator};
 use crate::tree::{Expression, Identifier};
+use kpn_lang::Op;
 use kpn_text_tokens::{Lexeme, Mark, Token};
 use std::alloc::Global;
 
@@ -146,7 +147,7 @@ fn tight_operand<'a>(
     }
 }
 
-/// A name, or an element of an array or a table if `[` is behind its name.
+/// A name, an element of an array or a table if `[` is behind its name, or an operator that it calls.
 #[cycle(tight)]
 #[tactic(auto, unfolding(crate::specs::Reading::behind_name, kpn_text_tokens::specs::Results::and_then))]
 fn behind_name<'a>(
@@ -165,8 +166,7 @@ fn behind_name<'a>(
     ensures levels { IfOk result (λ found. HasLevels room.levels found.0) }
 {
     if !at_mark(source, Mark::LeftBracket, at) {
-        let root = Box::new(alloc, Expression::Name(name))?;
-        return Ok((Subtree { root, levels: 1 }, at));
+        return call_or_name(alloc, source, room, name, at);
     }
     let inside = Room {
         levels: room.levels - 1,
@@ -178,6 +178,69 @@ fn behind_name<'a>(
     let Subtree { root, levels } = index;
     let root = Box::new(alloc, Expression::Element(name, root))?;
     let levels = levels + 1;
+    Ok((Subtree { root, levels }, at))
+}
+
+/// A name, or the operator that it calls if `(` is behind it.
+#[cycle(tight)]
+#[tactic(auto, unfolding(crate::specs::Reading::call_or_name))]
+fn call_or_name<'a>(
+    alloc: Global,
+    source: Source<'a>,
+    room: Room,
+    name: Identifier<'a>,
+    at: usize,
+) -> Read<Subtree<'a>>
+    requires levels { 0 < room.levels }
+    requires depth { 0 < room.depth }
+    ensures read { Parses (λ tree. term tree.root.value)
+        (λ s. spec.call_or_name s
+        (spec.tight s (room.depth - 1) (room.levels - 1) (table.loosest s.language))
+        name.entry.bytes.now (table.operator_called s.language name.entry.bytes.now))
+        source.entry at result }
+    ensures levels { IfOk result (λ found. HasLevels room.levels found.0) }
+{
+    if let Some(operator) = operator_called(source.scope.language, name.bytes) {
+        if at_mark(source, Mark::LeftParen, at) {
+            return call(alloc, source, room, operator, at);
+        }
+    }
+    let root = Box::new(alloc, Expression::Name(name))?;
+    Ok((Subtree { root, levels: 1 }, at))
+}
+
+/// `(`, the two sides with a comma between them, and `)`, behind the name of an operator.
+#[cycle(tight)]
+#[tactic(auto, unfolding(crate::specs::Reading::call_behind, kpn_text_tokens::specs::Results::and_then))]
+fn call<'a>(
+    alloc: Global,
+    source: Source<'a>,
+    room: Room,
+    operator: Op,
+    at: usize,
+) -> Read<Subtree<'a>>
+    requires levels { 0 < room.levels }
+    requires depth { 0 < room.depth }
+    ensures read { Parses (λ tree. term tree.root.value)
+        (λ s. spec.call_behind s
+        (spec.tight s (room.depth - 1) (room.levels - 1) (table.loosest s.language)) operator)
+        source.entry at result }
+    ensures levels { IfOk result (λ found. HasLevels room.levels found.0) }
+{
+    let inside = Room {
+        levels: room.levels - 1,
+        depth: room.depth - 1,
+    };
+    let least = loosest(source.scope.language);
+    let at = mark(source, Mark::LeftParen, at)?;
+    let (left, at) = tight(alloc, source, inside, least, at)?;
+    let at = mark(source, Mark::Comma, at)?;
+    let (right, at) = tight(alloc, source, inside, least, at)?;
+    let at = mark(source, Mark::RightParen, at)?;
+    let Subtree { root: a, levels: i } = left;
+    let Subtree { root: b, levels: j } = right;
+    let levels = i.max(j) + 1;
+    let root = Box::new(alloc, Expression::Binary(operator, a, b))?;
     Ok((Subtree { root, levels }, at))
 }
 

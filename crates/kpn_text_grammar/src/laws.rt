@@ -13,7 +13,7 @@ pub fn spelled_once()
     ensures { SpelledOnce }
 {}
 
-/// The canonical spelling of a description within the limits spells it.
+/// The canonical spelling of a description within the limits spells it, if its blocks can be spelled at all.
 pub fn canonical_spells()
     ensures { CanonicalSpells }
 {}

@@ -20,7 +20,7 @@ mod words;
 
 pub use fault::GrammarFault;
 pub use laws::{canonical_spells, read_where_spelled, spelled_once};
-pub use operators::{LOOSEST, OPERAND, left_side, mark_of, right_side, tightness};
+pub use operators::{LOOSEST, OPERAND, left_side, mark_of, name_of, right_side, tightness};
 pub use tree::{
     Block, Declaration, Description, Expression, HeadParts, Identifier, InstanceNode, Item,
     Literal, Names, NetworkNode, ProcessNode, StatementNode, Table,

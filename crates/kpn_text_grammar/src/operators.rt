@@ -1,13 +1,15 @@
-//! The operators of the process language and the marks that stand for them: one table, for reading and for printing.
+//! The operators of the process language and the marks and names that stand for them: one table, for reading and for
+//! printing.
 
-ghost use Rattle.std.specs.Prelude.{◌≡◌};
-ghost use Rattle.kpn_text_grammar.specs.Operators.{operator_mark};
+ghost use Rattle.std.specs.Prelude.{◌≡◌, IfNone, IfSome, None, Some};
+ghost use Rattle.kpn_text_grammar.specs.Operators.{operator_mark, operator_name};
 ghost use Rattle.kpn_text_grammar.specs.Operators as table;
 
 use kpn_lang::Op;
 use kpn_text_tokens::{Language, Mark};
 
-const OPERATORS: [Op; 18] = [
+/// Those that stand between their sides.
+const BETWEEN: [Op; 18] = [
     Op::Add,
     Op::Sub,
     Op::Mul,
@@ -28,7 +30,10 @@ const OPERATORS: [Op; 18] = [
     Op::Shr,
 ];
 
-/// The mark that stands for an operator between two expressions.
+/// Those that are called.
+const CALLED: [Op; 2] = [Op::Min, Op::Max];
+
+/// The mark between the sides of an operator.
 pub fn mark_of(operator: Op) -> Mark
     ensures { result ≡ operator_mark operator }
 {
@@ -51,6 +56,43 @@ pub fn mark_of(operator: Op) -> Mark
         Op::BitXor => Mark::BitXor,
         Op::Shl => Mark::ShiftLeft,
         Op::Shr => Mark::ShiftRight,
+        Op::Min | Op::Max => Mark::Comma,
+    }
+}
+
+/// The name of an operator that is called: `min(a, b)`, `max(a, b)`.
+pub fn name_of(operator: Op) -> Option<&'static [u8]>
+    ensures some { IfSome result (λ name. operator_name operator ≡ Some name.now) }
+    ensures none { IfNone result (operator_name operator ≡ None) }
+{
+    match operator {
+        Op::Min => Some(b"min"),
+        Op::Max => Some(b"max"),
+        _ => None,
+    }
+}
+
+/// Whether a name is that of an operator.
+fn is_named(name: &[u8], operator: Op) -> bool
+    ensures { result ≡ table.is_named name.now (operator_name operator) }
+{
+    match name_of(operator) {
+        Some(found) => found == name,
+        None => false,
+    }
+}
+
+/// The operator that a name with `(` behind it calls.
+#[tactic(auto, unfolding(crate::specs::Operators::operator_called))]
+pub(crate) fn operator_called(language: Language, name: &[u8]) -> Option<Op>
+    ensures { result ≡ table.operator_called language name.now }
+{
+    match language {
+        Language::One => None,
+        Language::Two => CALLED
+            .iter()
+            .copied()
+            .find(|operator| is_named(name, *operator)),
     }
 }
 
@@ -59,7 +101,7 @@ pub fn mark_of(operator: Op) -> Mark
 pub(crate) fn operator_of(mark: Mark) -> Option<Op>
     ensures { result ≡ table.operator_of mark }
 {
-    OPERATORS
+    BETWEEN
         .iter()
         .copied()
         .find(|operator| mark_of(*operator) == mark)
@@ -93,7 +135,8 @@ fn is_comparison(operator: Op) -> bool
     )
 }
 
-/// How tight an operator binds in language 2, from 1 for the one that binds loosest.
+/// How tight an operator binds in language 2, from 1 for the one that binds loosest. One that is called is an operand,
+/// whatever this says.
 pub fn tightness(operator: Op) -> usize
     ensures { result ≡ table.tightness operator }
 {
@@ -106,7 +149,7 @@ pub fn tightness(operator: Op) -> usize
         Op::BitAnd => 6,
         Op::Shl | Op::Shr => 7,
         Op::Add | Op::Sub => 8,
-        Op::Mul | Op::Div | Op::Rem => 9,
+        Op::Mul | Op::Div | Op::Rem | Op::Min | Op::Max => 9,
     }
 }
 

@@ -40,7 +40,7 @@ pub enum Expression<'a> {
     Not(Box<Expression<'a>>),
     /// `~e`
     BitNot(Box<Expression<'a>>),
-    /// `(left op right)`
+    /// `(left op right)`, `min(left, right)`
     Binary(Op, Box<Expression<'a>>, Box<Expression<'a>>),
     /// `(test ? first : second)`
     Choice(Box<Expression<'a>>, Box<Expression<'a>>, Box<Expression<'a>>),

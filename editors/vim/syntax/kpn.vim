@@ -21,6 +21,7 @@ syntax match kpnKeyword /language\ze[ \t]\+0*2[ \t]*;/
 syntax match kpnKeyword /\<array\ze[ \t]\+[A-Za-z_][A-Za-z0-9_]*[ \t]*\[/
 syntax match kpnKeyword /\<\%(table\|const\)\ze[ \t]\+[A-Za-z_][A-Za-z0-9_]*[ \t]*=/
 syntax match kpnFunction /\%(\<process[ \t]\+\)\@<=[A-Za-z_][A-Za-z0-9_]\{,31}\>/
+syntax match kpnFunction /\<\%(min\|max\)\ze[ \t]*(/
 syntax match kpnComment /#.*$/
 
 highlight default link kpnError Error

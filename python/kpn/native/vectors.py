@@ -8,7 +8,7 @@ from __future__ import annotations
 
 from typing import Any, Dict, Iterator, List, NamedTuple, Optional, Tuple
 
-from ..language import INDEX, Assign, Expression, Read, Write
+from ..language import CALLED, INDEX, Assign, Expression, Read, Write
 
 # What an item of 16 bits may be, and what a value of 32 bits may be.
 SMALL, WIDE = (-2**15, 2**15 - 1), (-2**31, 2**31 - 1)
@@ -217,6 +217,8 @@ def of_operands(mark: str, of: List[str]) -> str:
     if mark == '!' or mark in COMPARED:
         test = f'{of[0]} {mark} {of[1]}' if of[1:] else f'{of[0]} == 0'
         return f'({test}) ? INT32_C(1) : INT32_C(0)'
+    if mark in CALLED:
+        return f'({of[0]} {"<" if mark == "min" else ">"} {of[1]}) ? {of[0]} : {of[1]}'
     return f'{of[0]} {mark} {of[1]}' if of[1:] else f'{mark}{of[0]}'
 
 
@@ -227,6 +229,9 @@ def interval(mark: str, of: List[Interval]) -> Interval:
     if len(of) == 1:
         return Interval(-of[0].greatest, -of[0].least)
     a, b = of
+    if mark in CALLED:
+        least_or_greatest = min if mark == 'min' else max
+        return Interval(*map(least_or_greatest, a, b))
     if mark == '+':
         return Interval(a.least + b.least, a.greatest + b.greatest)
     if mark == '-':

@@ -50,7 +50,7 @@ BINARY: Dict[str, Any] = {
     '/': lambda a, b: divided(a, b)[0], '%': lambda a, b: divided(a, b)[1], '<<': shifted,
     '>>': lambda a, b: a // shifted(1, b), '<': lambda a, b: int(a < b), '<=': lambda a, b: int(a <= b),
     '>': lambda a, b: int(a > b), '>=': lambda a, b: int(a >= b), '==': lambda a, b: int(a == b),
-    '!=': lambda a, b: int(a != b),
+    '!=': lambda a, b: int(a != b), 'min': min, 'max': max,
 }
 UNARY: Dict[str, Any] = {'-': int.__neg__, '!': lambda a: int(not a), '~': int.__invert__}
 

@@ -13,6 +13,12 @@ decreases-tight_operand l = 4 * (l.room.levels + l.room.depth) - 1
 abbrev pub decreases-behind_name : goal.decreases-behind_name
 decreases-behind_name l = 4 * (l.room.levels + l.room.depth) - 2
 
+abbrev pub decreases-call_or_name : goal.decreases-call_or_name
+decreases-call_or_name l = 4 * (l.room.levels + l.room.depth) - 3
+
+abbrev pub decreases-call : goal.decreases-call
+decreases-call l = 4 * (l.room.levels + l.room.depth) - 4
+
 abbrev pub decreases-behind_sign : goal.decreases-behind_sign
 decreases-behind_sign l = 4 * (l.room.levels + l.room.depth) - 2
 
