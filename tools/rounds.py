@@ -20,6 +20,8 @@ ROWS = (('||',), ('&&',), ('<', '<=', '>', '>=', '==', '!='), ('|',), ('^',), ('
 TIGHTNESS = {mark: number for number, row in enumerate(ROWS, 1) for mark in row}
 # What `x += e;`, `a[i] += e;` and the like compute.
 COMPOUND = {f'{mark}=': mark for mark in ('+', '-', '*', '/', '%', '&', '|', '^', '<<', '>>')}
+# The names of the variables that keep the ends of loops are beginnings of this.
+ENDS = 'to' + '_' * 30
 DIGITS, ESCAPED = frozenset("0123456789'"), {'n': 10, '\\': 92, "'": 39, '0': 0}
 COMPARING, SHIFTING, OPERAND = TIGHTNESS['<'], TIGHTNESS['<<'], len(ROWS) + 1
 
@@ -70,6 +72,9 @@ class Parser:
         self.language, self.shared = 1, {}
         # Those for all that follows, and those of a process or of the network.
         self.constants, self.own, self.depth = {}, {}, 0
+        # The length of the longest name that may be one of an end.
+        declared = {name for word, name in zip(self.tokens, self.tokens[1:]) if word == 'const'}
+        self.taken = max((len(it) for it in {*self.tokens} - declared if ENDS.startswith(it)), default=1)
         # What channels have that say nothing.
         self.usual = None
 
@@ -169,8 +174,18 @@ class Parser:
         """Those of a block, after its brace."""
         found = []
         while not self.took('}'):
-            found.append(self.statement())
+            found += self.loop() if self.language == 2 and self.took('for') else [self.statement()]
         return found
+
+    def loop(self):
+        """What a `for` stands for, after that word."""
+        name = self.next()
+        self.next('in')
+        first = self.expression()
+        self.next('..')
+        end = ENDS[:self.taken + self.depth]
+        return [('assign', name, first), ('assign', end, self.expression()),
+                ('while', ('<', name, end), [*self.block(), ('assign', name, ('+', name, 1))])]
 
     def statement(self):
         word = self.next()

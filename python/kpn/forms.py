@@ -5,11 +5,11 @@
 from __future__ import annotations
 
 import collections
-from typing import Dict, List, Mapping, Sequence, Tuple
+from typing import Dict, List, Mapping, Optional, Sequence, Tuple
 
 from .errors import LARGEST, KpnError, Spot
 from .faults import Values
-from .language import Reader, Token, is_name, number_of
+from .language import LONGEST_NAME, Reader, Token, is_name, number_of
 from .process import Process
 from .program import explain
 
@@ -17,6 +17,8 @@ from .program import explain
 BEGINNINGS = frozenset(';{}')
 # The operators that an assignment may have.
 CHANGING = frozenset('+ - * / % & | ^ << >>'.split())
+# The names of the variables that keep the ends of loops are beginnings of this.
+ENDS = f'to{"_" * (LONGEST_NAME - 2)}'
 SETTINGS = ('limit', 'policy', 'grow')
 # How many tokens `language 2;` has, and a setting.
 OPENING = SETTING = 3
@@ -89,14 +91,18 @@ class Plain:
 
     def __init__(self, tokens: List[Token]):
         self.tokens, self.place, self.found = tokens, OPENING, tokens[:OPENING]
+        # The variable of each `for` whose block is open, and nothing of another block.
+        self.blocks: List[Optional[Token]] = []
         # Where the settings of the network begin, and what channels get that have no capacity.
         self.head = 0
         self.cap: Tuple[str, ...] = ()
+        # The length of the longest name of the text that `ENDS` begins with, but at least 1.
+        self.taken = max((len(it.text) for it in tokens if ENDS.startswith(it.text)), default=1) or 1
 
     def all(self) -> List[Token]:
         """All tokens."""
         while self.place < len(self.tokens):
-            if self.found[-1].text not in BEGINNINGS or not (self.compound() or self.capped()):
+            if self.found[-1].text not in BEGINNINGS or not (self.compound() or self.loop() or self.capped()):
                 self.other()
         return self.found
 
@@ -145,6 +151,37 @@ class Plain:
         self.value(start + 2)
         return True
 
+    def copied(self, start: int, mark: str) -> Token:
+        """Puts in what stands from here up to a mark or `;`, goes there, and gives that token."""
+        end = next((it for it in range(start, len(self.tokens)) if self.tokens[it].text in (mark, ';')),
+                   len(self.tokens) - 1)
+        self.found += self.tokens[start:end]
+        self.place = end
+        return self.tokens[end]
+
+    def loop(self) -> bool:
+        """`for i in a..b {` becomes `i = a; to = b; while i < to {`, with a name for `to` that is nowhere else."""
+        if self.text(0) != 'for' or not self.blocks or self.head:
+            return False
+        if not is_name(self.text(1), 2) or self.text(2) != 'in':
+            return self.refuse('for', 1 + is_name(self.text(1), 2))
+        variable, word = self.tokens[self.place + 1:self.place + 3]
+        # It is longer in each block.
+        length = self.taken + len(self.blocks)
+        self.found.append(variable)
+        self.put('=', at=word)
+        dots = self.copied(self.place + 3, '..')
+        if dots.text != '..' or length > LONGEST_NAME:
+            return self.refuse('for', 0)
+        self.put(';', ENDS[:length], '=', at=dots)
+        brace = self.copied(self.place + 1, '{')
+        if brace.text != '{':
+            return self.refuse('for', 0)
+        self.put(';', 'while', variable.text, '<', ENDS[:length], '{', at=brace)
+        self.blocks.append(variable)
+        self.place += 1
+        return True
+
     def capped(self) -> bool:
         """`cap N;` among the settings of the network, for channels that have none."""
         settings = [it.text for it in self.found[self.head::SETTING]]
@@ -160,8 +197,13 @@ class Plain:
     def other(self) -> None:
         """A token that stands for itself, and what comes in front of it."""
         token = self.tokens[self.place]
-        if token.text == '{' and self.found[-1].text == 'network':
-            self.head = self.head or len(self.found) + 1
+        if token.text == '{':
+            self.blocks.append(None)
+            self.head = self.head or (len(self.found) + 1) * (self.found[-1].text == 'network')
+        elif token.text == '}' and self.blocks:
+            variable = self.blocks.pop()
+            if variable:
+                self.put(variable.text, '=', variable.text, '+', '1', ';', at=token)
         elif token.text == ';' and self.found[-2].text in ('channel', 'sink'):
             self.put(*self.cap, at=token)
         self.found.append(token)

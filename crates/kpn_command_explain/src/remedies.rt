@@ -17,7 +17,8 @@ fn without_parentheses(habit: Habit) -> &'static [u8] {
     match habit {
         Habit::Slashes =>
             b"A comment begins with `#` and ends with its line. A quotient is written `x / 2`.",
-        Habit::For => b"There is no `for`: count in a variable, as in `while k < 9 { k += 1; }`.",
+        Habit::For =>
+            b"Write `for k in 0..9 { }`, or count in a variable: `while k < 9 { k += 1; }`.",
         Habit::ElseIf => b"Write `else if`: `if x { } else if y { }`.",
         Habit::Changes => b"A variable changes by an assignment of its own: `x += 1;`.",
         Habit::NoCapacity =>

@@ -3,9 +3,12 @@ pub mod Common
 mod Steps
 mod Folds
 mod Can
+mod HiddenNames
 mod PlainCapacities
+mod PlainLoops
 mod PlainSums
 mod SpelledCapacities
+mod SpelledLoops
 mod SpelledSums
 pub mod Plain
 pub mod PlainSpelling

@@ -1,0 +1,73 @@
+//! Names of variables that stand for no name of the text: `to`, `to_` and so on, longer than those that it has.
+
+ghost use Rattle.std.specs.Prelude.{◌≡◌, Ok, Some};
+ghost use Rattle.kpn_text_tokens.specs.declared.tokens.Language.TheVariants as language;
+ghost use Rattle.kpn_text_tokens.specs.Rules.{IsName};
+ghost use Rattle.kpn_text_expand.specs.Hidden as spec;
+ghost use Rattle.kpn_text_expand.specs.Results.{Yields};
+
+use crate::fault::ExpandFault;
+use kpn_text_tokens::{Language, Lexeme, Name, Token, lexemes};
+use std::alloc::Global;
+
+/// The names are fronts of this.
+fn longest() -> &'static [u8]
+    ensures { result.now ≡ spec.longest_hidden }
+{
+    b"to______________________________"
+}
+
+/// The length of a name that may be one of them, and else 0.
+fn length_taken(token: &Token<'_>) -> usize
+    ensures { result ≡ spec.length_taken token.now }
+{
+    match token {
+        Token::Name(name) if longest().starts_with(name.bytes()) => name.bytes().len(),
+        _ => 0,
+    }
+}
+
+fn greater_of(m: usize, n: usize) -> usize
+    ensures { result ≡ spec.greater_of m n }
+{
+    if m < n { n } else { m }
+}
+
+/// The greatest of these lengths, but at least 1.
+pub(crate) fn most_taken(tokens: &[Lexeme<'_>]) -> usize
+    ensures { result ≡ spec.most_taken tokens.now }
+{
+    let mut most = 1;
+    for lexeme in tokens {
+        most = greater_of(most, length_taken(&lexeme.token));
+    }
+    most
+}
+
+/// The name that these bytes are.
+fn name_of(alloc: Global, bytes: &'static [u8]) -> Result<Name<'static>, ExpandFault>
+    requires { IsName language.Two bytes.now }
+    ensures { Yields (λ name. name) result (Ok bytes.now) }
+{
+    let Ok(tokens) = lexemes(alloc, Language::Two, bytes) else {
+        return Err(ExpandFault::NoMemory);
+    };
+    match &tokens[0].token {
+        Token::Name(name) => Ok(name.copy()),
+        _ => Err(ExpandFault::NoMemory),
+    }
+}
+
+/// The name of this length, if one may have it.
+pub(crate) fn hidden_name(
+    alloc: Global,
+    length: usize,
+) -> Result<Option<Name<'static>>, ExpandFault>
+    ensures { Yields (λ name. name) result (Ok (spec.hidden_name length)) }
+{
+    if length == 0 || length > longest().len() {
+        return Ok(None);
+    }
+    let name = name_of(alloc, &longest()[..length])?;
+    Ok(Some(name))
+}
