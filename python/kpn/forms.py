@@ -17,8 +17,8 @@ from .program import explain
 BEGINNINGS = frozenset(';{}')
 # The operators that an assignment may have.
 CHANGING = frozenset('+ - * / % & | ^ << >>'.split())
-# The names of the variables that keep the ends of loops are beginnings of this.
-ENDS = f'to{"_" * (LONGEST_NAME - 2)}'
+# The names of the variables that keep the ends of loops, and items on their way into cells, are beginnings of these.
+ENDS, ITEMS = (it + '_' * (LONGEST_NAME - len(it)) for it in ('to', 'item'))
 SETTINGS = ('limit', 'policy', 'grow')
 # How many tokens `language 2;` has, and a setting.
 OPENING = SETTING = 3
@@ -96,15 +96,19 @@ class Plain:
         # Where the settings of the network begin, and what channels get that have no capacity.
         self.head = 0
         self.cap: Tuple[str, ...] = ()
-        # The length of the longest name of the text that `ENDS` begins with, but at least 1.
-        self.taken = max((len(it.text) for it in tokens if ENDS.startswith(it.text)), default=1) or 1
+        # How long the names of `ENDS` and `ITEMS` are that the text has, or that are too short.
+        self.ends, self.items = longest_of(tokens, ENDS, 1), longest_of(tokens, ITEMS, 3)
 
     def all(self) -> List[Token]:
         """All tokens."""
         while self.place < len(self.tokens):
-            if self.found[-1].text not in BEGINNINGS or not (self.compound() or self.loop() or self.capped()):
+            if self.found[-1].text not in BEGINNINGS or not self.form():
                 self.other()
         return self.found
+
+    def form(self) -> bool:
+        """Goes past a form that begins here, and puts in what it stands for."""
+        return self.compound() or self.cell() or self.loop() or self.capped()
 
     def text(self, number: int) -> str:
         """One of the tokens from the next one on."""
@@ -151,6 +155,26 @@ class Plain:
         self.value(start + 2)
         return True
 
+    def cell(self) -> bool:
+        """`read p a[i];` becomes `read p item; a[i] = item;`, with a name for `item` that is nowhere else."""
+        words = [it.text for it in self.tokens[self.place:self.place + 4]]
+        if words[0] != 'read' or words[3:] != ['['] or not (is_name(words[1], 2) and is_name(words[2], 2)):
+            return False
+        item = ITEMS[:self.items + 1]
+        self.found += self.tokens[self.place:self.place + 2]
+        self.place += 2
+        if len(item) == self.items:
+            self.found.append(self.tokens[self.place])
+            return self.refuse('for', 1)
+        self.put(item, ';', at=self.tokens[self.place + 1])
+        target = self.target()
+        self.found += target
+        self.place += len(target)
+        if self.text(0) != ';':
+            return self.refuse('for', 0)
+        self.put('=', item, at=self.tokens[self.place])
+        return True
+
     def copied(self, start: int, mark: str) -> Token:
         """Puts in what stands from here up to a mark or `;`, goes there, and gives that token."""
         end = next((it for it in range(start, len(self.tokens)) if self.tokens[it].text in (mark, ';')),
@@ -167,7 +191,7 @@ class Plain:
             return self.refuse('for', 1 + is_name(self.text(1), 2))
         variable, word = self.tokens[self.place + 1:self.place + 3]
         # It is longer in each block.
-        length = self.taken + len(self.blocks)
+        length = self.ends + len(self.blocks)
         self.found.append(variable)
         self.put('=', at=word)
         dots = self.copied(self.place + 3, '..')
@@ -208,6 +232,11 @@ class Plain:
             self.put(*self.cap, at=token)
         self.found.append(token)
         self.place += 1
+
+
+def longest_of(tokens: Sequence[Token], names: str, least: int) -> int:
+    """The length of the longest token that these names begin with, but at least this."""
+    return max([least, *(len(it.text) for it in tokens if names.startswith(it.text))])
 
 
 def end_of(tokens: Sequence[Token], start: int) -> int:

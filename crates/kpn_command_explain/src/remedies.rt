@@ -1,7 +1,6 @@
 //! What helps where another language would write it so.
 
 use crate::habits::Habit;
-use crate::sentences::READ_CELL;
 use kpn_text_tokens::Language;
 
 /// What helps with a way of writing in a language.
@@ -150,7 +149,6 @@ fn usual(habit: Habit) -> &'static [u8] {
         Habit::Place => PLACE,
         Habit::Table => NO_TABLES,
         Habit::Index => INDEX,
-        Habit::ReadCell => READ_CELL,
         Habit::LateRow => LATE_ROW,
         Habit::LateTable =>
             b"Move it to the front of the text: tables that are shared stand before all processes.",

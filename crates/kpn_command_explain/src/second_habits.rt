@@ -25,7 +25,6 @@ pub(crate) fn habit_of_two(
         Stand::Operand => Ok(operand_habit_of_two(last, here)),
         Stand::Statement | Stand::BeforeElse => Ok(statement_habit_of_two(here)),
         Stand::Declaring => declaring_habit(alloc, front, last, here),
-        Stand::BehindRead if here.starts_with(b"[") => Ok(Some(Habit::ReadCell)),
         Stand::Elsewhere => elsewhere_habit_of_two(alloc, front, last, here),
         _ => Ok(habit_at(stand, last, here)),
     }
@@ -122,15 +121,15 @@ fn declaring_habit(
     Ok(Some(habit))
 }
 
-// At another place. The head of a loop is none if no name follows `for`, or `=` stands where `in` may.
+// At another place. Where `in` may stand, `=` is meant for a loop.
 fn elsewhere_habit_of_two(
     alloc: Global,
     front: &[u8],
     last: &[u8],
     here: &[u8],
 ) -> Result<Option<Habit>, AllocError> {
-    let is_head = assigns(here) && may_stand(alloc, front, b"in")?;
-    Ok(if is_head || is_word(last, b"for") {
+    let is_loop = assigns(here) && may_stand(alloc, front, b"in")?;
+    Ok(if is_loop {
         Some(Habit::For)
     } else if is_word(here, b"table") {
         Some(Habit::LateTable)

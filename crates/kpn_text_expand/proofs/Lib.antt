@@ -5,9 +5,11 @@ mod Folds
 mod Can
 mod HiddenNames
 mod PlainCapacities
+mod PlainCells
 mod PlainLoops
 mod PlainSums
 mod SpelledCapacities
+mod SpelledCells
 mod SpelledLoops
 mod SpelledSums
 pub mod Plain

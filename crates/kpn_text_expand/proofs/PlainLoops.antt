@@ -1,18 +1,14 @@
 -- Tokens without a loop over a range stay.
-use Rattle.std.proofs.Common.{◌≡◌, ℕ, zero, suc, ◌-◌, List, [], ◌∷◌, ◌++◌, length, take, Option, Some, None, refl, ap}
+use Rattle.std.proofs.Common.{zero, suc, ◌-◌, length}
 use Rattle.std.specs.Prelude.{slice_get}
-use Rattle.std.specs.List.{AllByRecursion}
+use Rattle.kpn_text_expand.proofs.Common.{◌≡◌, ℕ, List, [], ◌∷◌, ◌++◌, take, Option, Some, None, refl, ap, AllByRecursion, Lexeme, Token, kinds, ArePlain, IsPlain}
 use Rattle.kpn_text_tokens.specs.declared.tokens.Keyword.TheVariants as keyword
-use Rattle.kpn_text_tokens.specs.declared.tokens.Lexeme.{Lexeme}
 use Rattle.kpn_text_tokens.specs.declared.tokens.Mark.TheVariants as mark
-use Rattle.kpn_text_tokens.specs.declared.tokens.Token.{Token}
 use Rattle.kpn_text_tokens.specs.declared.tokens.Token.TheVariants as token
-use Rattle.kpn_text_grammar.specs.Spelling.{kinds}
 use Rattle.kpn_text_expand.specs.declared.loops.Loops.{Loops}
 use Rattle.kpn_text_expand.specs.declared.loops.LoopSpot.{LoopSpot}
 use Rattle.kpn_text_expand.specs.declared.loops.LoopSpot.TheVariants as spot
 use Rattle.kpn_text_expand.specs.Loops.{blocks_around, at_first, counted_if, token_kept, name_if, name_said, passed_by, step, step_at, loop_variable, with_loops}
-use Rattle.kpn_text_expand.specs.Plain.{ArePlain, IsPlain}
 use Rattle.kpn_text_expand.proofs.Folds.{all_seen}
 
 -- no loop is open

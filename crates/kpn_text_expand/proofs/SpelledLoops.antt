@@ -5,16 +5,17 @@ use Rattle.std.specs.Prelude.{◌+◌, min, slice_get}
 use Rattle.kpn_text_tokens.specs.declared.tokens.Keyword.TheVariants as keyword
 use Rattle.kpn_text_tokens.specs.declared.tokens.Mark.TheVariants as mark
 use Rattle.kpn_text_tokens.specs.declared.tokens.Token.TheVariants as token
+use Rattle.kpn_text_expand.specs.declared.hidden.Hidden.TheVariants as hidden
 use Rattle.kpn_text_expand.specs.declared.loops.Loops.{Loops}
 use Rattle.kpn_text_expand.specs.declared.loops.LoopSpot.{LoopSpot}
 use Rattle.kpn_text_expand.specs.declared.loops.LoopSpot.TheVariants as spot
 use Rattle.kpn_text_expand.specs.Loops.{blocks_around, at_first, end_begun_as, end_name, counted_up, counted_if, body_begun_as, token_kept, name_if, name_said, token_passed, passed_by, refused, step, step_at, test_written, loop_variable, with_loops, one_added}
-use Rattle.kpn_text_expand.proofs.Can.{CanBe, Spelled, both_spelled, mark_can, number_can}
+use Rattle.kpn_text_expand.proofs.Can.{CanBe, Spelled, both_spelled, for_can, mark_can, number_can}
 use Rattle.kpn_text_expand.proofs.Folds.{all_hold}
 use Rattle.kpn_text_expand.proofs.HiddenNames.{CanIf, hidden_can}
 
 end_can : (s : Loops) → CanIf (end_name s)
-end_can s = hidden_can (min (s.taken + (length s.blocks - 1)) 18446744073709551615)
+end_can s = hidden_can hidden.End (min (s.taken + (length s.blocks - 1)) 18446744073709551615)
 
 name_can : (t : Token) → CanBe t → CanIf (name_said t)
 name_can (token.Name x) can = can
@@ -59,7 +60,7 @@ at_spot p s is = record { left = is.left; blocks = is.blocks }
 refuses : (l : Lexeme) (s : Loops) → CanBe l.token → IsSound s → IsSound (refused l s)
 refuses l s can is =
     keeps l spot.Rest (one_added (token.Keyword keyword.For) l.start s) can
-    (adds (token.Keyword keyword.For) l.start s (codes "for", (refl, refl)) is)
+    (adds (token.Keyword keyword.For) l.start s for_can is)
 
 counts : (x : List ℕ) (at : ℕ) (s : Loops) → CanBe (token.Name x) → IsSound s → IsSound (counted_up x at s)
 counts x at s can is =

@@ -12,6 +12,7 @@ use Rattle.kpn_text_expand.specs.declared.loops.Loops.{Loops}
 use Rattle.kpn_text_expand.specs.declared.loops.LoopSpot.{LoopSpot}
 use Rattle.kpn_text_expand.specs.declared.loops.LoopSpot.TheVariants as spot
 use Rattle.kpn_text_expand.specs.Constants.{with_token}
+use Rattle.kpn_text_expand.specs.declared.hidden.Hidden.TheVariants as hidden
 use Rattle.kpn_text_expand.specs.Hidden.{hidden_name, most_taken}
 
 -- the innermost of the open blocks, and those around it
@@ -35,11 +36,11 @@ loop_variable bs = name_if (innermost bs)
 
 -- before the first of these tokens
 abbrev pub at_first : List Lexeme → Loops
-at_first ls = record { left = []; blocks = []; taken = most_taken ls; spot = spot.Inside }
+at_first ls = record { left = []; blocks = []; taken = most_taken hidden.End ls; spot = spot.Inside }
 
 -- the name that keeps the end of the innermost loop: longer in each block, and than each one of the text
 abbrev pub end_name : Loops → Option NameBytes
-end_name s = hidden_name (min (s.taken + (length s.blocks - 1)) 18446744073709551615)
+end_name s = hidden_name hidden.End (min (s.taken + (length s.blocks - 1)) 18446744073709551615)
 
 abbrev pub one_added : Token → (at : ℕ) → Loops → Loops
 one_added t at s = record s { left = with_token t at s.left }

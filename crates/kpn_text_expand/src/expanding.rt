@@ -6,6 +6,7 @@ ghost use Rattle.kpn_text_expand.specs.Expanding as spec;
 ghost use Rattle.kpn_text_expand.specs.Results.{Yields};
 
 use crate::capacities::with_capacities;
+use crate::cells::with_cells;
 use crate::constants::Constants;
 use crate::fault::ExpandFault;
 use crate::loops::with_loops;
@@ -47,7 +48,8 @@ fn without_forms<'a>(
 {
     let filled = with_capacities(alloc, tokens)?;
     let changed = with_sums(alloc, filled.as_slice())?;
-    with_loops(alloc, changed.as_slice())
+    let read = with_cells(alloc, changed.as_slice())?;
+    with_loops(alloc, read.as_slice())
 }
 
 /// What all forms leave of a text of this length.

@@ -7,7 +7,7 @@ ghost use Rattle.kpn_text_expand.specs.Results.{Yields};
 
 use crate::constants::add;
 use crate::fault::ExpandFault;
-use crate::hidden::{hidden_name, most_taken};
+use crate::hidden::{Hidden, hidden_name, most_taken};
 use kpn_lang::Sequence;
 use kpn_text_tokens::{Keyword, Lexeme, Mark, Name, Number, Token};
 use std::alloc::Global;
@@ -110,7 +110,7 @@ impl<'a> Loops<'a> {
         Loops {
             left: Sequence::new(alloc),
             blocks: Blocks::new(alloc),
-            taken: most_taken(tokens),
+            taken: most_taken(Hidden::End, tokens),
             spot: LoopSpot::Inside,
         }
     }
@@ -120,7 +120,7 @@ impl<'a> Loops<'a> {
         ensures { Yields (λ name. name) result (Ok (spec.end_name self.now)) }
     {
         let depth = self.blocks.len().saturating_sub(1);
-        hidden_name(alloc, self.taken.saturating_add(depth))
+        hidden_name(alloc, Hidden::End, self.taken.saturating_add(depth))
     }
 
     fn add(&mut self, token: Token<'a>, start: usize) -> Result<(), ExpandFault>
@@ -213,9 +213,7 @@ impl<'a> Loops<'a> {
 
     /// `; while i < to`
     fn write_test(&mut self, name: Name<'a>, end: Name<'a>, start: usize) -> Result<(), ExpandFault>
-        ensures {
-            Yields (λ _. self.new) result (Ok (spec.test_written name.entry end.entry start self.old))
-        }
+        ensures { Yields (λ _. self.new) result (Ok (spec.test_written name.entry end.entry start self.old)) }
     {
         self.add(Token::Mark(Mark::Semicolon), start)?;
         self.add(Token::Keyword(Keyword::While), start)?;
