@@ -22,6 +22,8 @@ TIGHTNESS = {mark: number for number, row in enumerate(ROWS, 1) for mark in row}
 COMPOUND = {f'{mark}=': mark for mark in ('+', '-', '*', '/', '%', '&', '|', '^', '<<', '>>')}
 # The operators that are called.
 CALLED = frozenset(('min', 'max'))
+# The names of the variables that keep the ends of loops, and items on their way into cells, are fronts of these.
+ENDS, ITEMS = 'to' + '_' * 30, 'item' + '_' * 28
 DIGITS, ESCAPED = frozenset("0123456789'"), {'n': 10, '\\': 92, "'": 39, '0': 0}
 COMPARING, SHIFTING, OPERAND = TIGHTNESS['<'], TIGHTNESS['<<'], len(ROWS) + 1
 
@@ -74,6 +76,10 @@ class Parser:
         self.constants, self.own, self.depth = {}, {}, 0
         # What channels have that say nothing.
         self.usual = None
+        # How long such names are that the text has, or that are too short.
+        declared = {name for word, name in zip(self.tokens, self.tokens[1:]) if word == 'const'}
+        self.ends, self.items = (max([least, *(len(it) for it in {*self.tokens} - declared if names.startswith(it))])
+                                 for names, least in ((ENDS, 1), (ITEMS, 3)))
 
     def settle(self):
         """Goes past the constants that are declared here, and puts the value of one in place of its name."""
@@ -171,8 +177,26 @@ class Parser:
         """Those of a block, after its brace."""
         found = []
         while not self.took('}'):
-            found.append(self.statement())
+            found += self.loop() if self.language == 2 and self.took('for') else self.plain(self.statement())
         return found
+
+    def loop(self):
+        """What a `for` stands for, after that word."""
+        name = self.next()
+        self.next('in')
+        first = self.expression()
+        self.next('..')
+        end = ENDS[:self.ends + self.depth]
+        return [('assign', name, first), ('assign', end, self.expression()),
+                ('while', ('<', name, end), [*self.block(), ('assign', name, ('+', name, 1))])]
+
+    def plain(self, statement):
+        """What a statement stands for, which may be a read into a cell."""
+        if statement[0] != 'read' or len(statement) == 3:
+            return [statement]
+        _, port, array, index = statement
+        item = ITEMS[:self.items + 1]
+        return [('read', port, item), ('set', array, index, item)]
 
     def statement(self):
         word = self.next()
@@ -182,7 +206,7 @@ class Parser:
         if word == 'while':
             return word, self.expression(), self.block()
         if word == 'read':
-            found = word, self.next(), self.next()
+            found = word, self.next(), self.next(), *([self.index()] if self.took('[') else [])
         elif word == 'write':
             found = word, self.next(), self.expression()
         elif self.took('['):

@@ -73,8 +73,24 @@ def loop(chance, cell):
     """A loop over the first two cells, and perhaps one around it."""
     first, end = chance.choice(('0', 'LESS + 1', 'SIZE - FEW - 1')), chance.choice(('2', 'FEW - 1', 'SIZE / 2'))
     body = chance.choice((f'y += {cell};', f'const THIS = FEW; y -= {cell} * THIS;', f'if x {{ y ^= {cell}; }}'))
-    inner = f'k = {first}; while k < {end} {{ {body} k += 1; }}'
-    return f'j = {first}; while j < FEW {{ {inner} j += 1; }}' if chance.random() < 0.3 else inner
+    inner = counted(chance, 'k', first, end, body)
+    return counted(chance, 'j', first, 'FEW', inner) if chance.random() < 0.3 else inner
+
+
+def counted(chance, variable, first, end, body):
+    """A loop over a range, in one of two ways to write it."""
+    if chance.random() < 0.5:
+        return f'for {variable} in {first}..{end} {{ {body} }}'
+    return f'{variable} = {first}; while {variable} < {end} {{ {body} {variable} += 1; }}'
+
+
+def read(chance, arrays):
+    """Gets an item, perhaps by way of a cell."""
+    if not arrays or chance.random() < 0.6:
+        return 'read i x;'
+    name = chance.choice(arrays)
+    cell = f'{name}[{index(chance, name, ["x", "y", "k"], 1)}]'
+    return f'read i {cell}; x = {cell}; {cell} &= 65535;'
 
 
 def process(chance, name, has_arrays):
@@ -86,7 +102,7 @@ def process(chance, name, has_arrays):
     chance.shuffle(declared)
     body = ' '.join(statements(chance, cells, arrays))
     return f'process {name}(in i; out o) {{ {constants(chance, OWN)} {" ".join(declared)} y = 0; k = 0; ' \
-           f'while 1 {{ read i x; {body} write o y; }} }}\n'
+           f'while 1 {{ {read(chance, arrays)} {body} write o y; }} }}\n'
 
 
 def network(chance):

@@ -5,11 +5,11 @@
 from __future__ import annotations
 
 import collections
-from typing import Dict, List, Mapping, Sequence, Tuple
+from typing import Dict, List, Mapping, Optional, Sequence, Tuple
 
 from .errors import LARGEST, KpnError, Spot
 from .faults import Values
-from .language import Reader, Token, is_name, number_of
+from .language import LONGEST_NAME, Reader, Token, is_name, number_of
 from .process import Process
 from .program import explain
 
@@ -17,6 +17,8 @@ from .program import explain
 BEGINNINGS = frozenset(';{}')
 # The operators that an assignment may have.
 CHANGING = frozenset('+ - * / % & | ^ << >>'.split())
+# The names of the variables that keep the ends of loops, and items on their way into cells, are beginnings of these.
+ENDS, ITEMS = (it + '_' * (LONGEST_NAME - len(it)) for it in ('to', 'item'))
 SETTINGS = ('limit', 'policy', 'grow')
 # How many tokens `language 2;` has, and a setting.
 OPENING = SETTING = 3
@@ -89,16 +91,24 @@ class Plain:
 
     def __init__(self, tokens: List[Token]):
         self.tokens, self.place, self.found = tokens, OPENING, tokens[:OPENING]
+        # The variable of each `for` whose block is open, and nothing of another block.
+        self.blocks: List[Optional[Token]] = []
         # Where the settings of the network begin, and what channels get that have no capacity.
         self.head = 0
         self.cap: Tuple[str, ...] = ()
+        # How long the names of `ENDS` and `ITEMS` are that the text has, or that are too short.
+        self.ends, self.items = longest_of(tokens, ENDS, 1), longest_of(tokens, ITEMS, 3)
 
     def all(self) -> List[Token]:
         """All tokens."""
         while self.place < len(self.tokens):
-            if self.found[-1].text not in BEGINNINGS or not (self.compound() or self.capped()):
+            if self.found[-1].text not in BEGINNINGS or not self.form():
                 self.other()
         return self.found
+
+    def form(self) -> bool:
+        """Goes past a form that begins here, and puts in what it stands for."""
+        return self.compound() or self.cell() or self.loop() or self.capped()
 
     def text(self, number: int) -> str:
         """One of the tokens from the next one on."""
@@ -145,6 +155,57 @@ class Plain:
         self.value(start + 2)
         return True
 
+    def cell(self) -> bool:
+        """`read p a[i];` becomes `read p item; a[i] = item;`, with a name for `item` that is nowhere else."""
+        words = [it.text for it in self.tokens[self.place:self.place + 4]]
+        if words[0] != 'read' or words[3:] != ['['] or not (is_name(words[1], 2) and is_name(words[2], 2)):
+            return False
+        item = ITEMS[:self.items + 1]
+        self.found += self.tokens[self.place:self.place + 2]
+        self.place += 2
+        if len(item) == self.items:
+            self.found.append(self.tokens[self.place])
+            return self.refuse('for', 1)
+        self.put(item, ';', at=self.tokens[self.place + 1])
+        target = self.target()
+        self.found += target
+        self.place += len(target)
+        if self.text(0) != ';':
+            return self.refuse('for', 0)
+        self.put('=', item, at=self.tokens[self.place])
+        return True
+
+    def copied(self, start: int, mark: str) -> Token:
+        """Puts in what stands from here up to a mark or `;`, goes there, and gives that token."""
+        end = next((it for it in range(start, len(self.tokens)) if self.tokens[it].text in (mark, ';')),
+                   len(self.tokens) - 1)
+        self.found += self.tokens[start:end]
+        self.place = end
+        return self.tokens[end]
+
+    def loop(self) -> bool:
+        """`for i in a..b {` becomes `i = a; to = b; while i < to {`, with a name for `to` that is nowhere else."""
+        if self.text(0) != 'for' or not self.blocks or self.head:
+            return False
+        if not is_name(self.text(1), 2) or self.text(2) != 'in':
+            return self.refuse('for', 1 + is_name(self.text(1), 2))
+        variable, word = self.tokens[self.place + 1:self.place + 3]
+        # It is longer in each block.
+        length = self.ends + len(self.blocks)
+        self.found.append(variable)
+        self.put('=', at=word)
+        dots = self.copied(self.place + 3, '..')
+        if dots.text != '..' or length > LONGEST_NAME:
+            return self.refuse('for', 0)
+        self.put(';', ENDS[:length], '=', at=dots)
+        brace = self.copied(self.place + 1, '{')
+        if brace.text != '{':
+            return self.refuse('for', 0)
+        self.put(';', 'while', variable.text, '<', ENDS[:length], '{', at=brace)
+        self.blocks.append(variable)
+        self.place += 1
+        return True
+
     def capped(self) -> bool:
         """`cap N;` among the settings of the network, for channels that have none."""
         settings = [it.text for it in self.found[self.head::SETTING]]
@@ -160,12 +221,22 @@ class Plain:
     def other(self) -> None:
         """A token that stands for itself, and what comes in front of it."""
         token = self.tokens[self.place]
-        if token.text == '{' and self.found[-1].text == 'network':
-            self.head = self.head or len(self.found) + 1
+        if token.text == '{':
+            self.blocks.append(None)
+            self.head = self.head or (len(self.found) + 1) * (self.found[-1].text == 'network')
+        elif token.text == '}' and self.blocks:
+            variable = self.blocks.pop()
+            if variable:
+                self.put(variable.text, '=', variable.text, '+', '1', ';', at=token)
         elif token.text == ';' and self.found[-2].text in ('channel', 'sink'):
             self.put(*self.cap, at=token)
         self.found.append(token)
         self.place += 1
+
+
+def longest_of(tokens: Sequence[Token], names: str, least: int) -> int:
+    """The length of the longest token that these names begin with, but at least this."""
+    return max([least, *(len(it.text) for it in tokens if names.startswith(it.text))])
 
 
 def end_of(tokens: Sequence[Token], start: int) -> int:

@@ -22,7 +22,8 @@ TOKENS = ('(', ')', '{', '}', ';', ',', '=', '-', '0', '1', '007', '1048577', '9
           'limit', 'policy', 'grow', 'all', 'double', 'source', 'sink', 'channel', 'read', 'in', 'out', '_' * 33, '&',
           '~', '?', ':', '<<', '+', '==', 'language', 'table', 'array', '[', ']', 'if', 'else', '0xfF', '0b1_0', '1_',
           '12ab', "'A'", "'\\n'", "'", 'const', 'for', '+=', '<<=', 'const N = 3;', 'const _ = -1;', 'x ^= 2;',
-          'a[0] += 1;', 'cap 2;', 'min', 'max', 'min(x, 1)')
+          'a[0] += 1;', 'cap 2;', 'min', 'max', 'min(x, 1)', '..', 'to', 'item', 'to_', 'for k in 0..3 {',
+          'for to in x..y { }', 'read i a[1];')
 CHARACTERS = ('', *'(){}[];,=-1x#\n\r\t\x00\x0b&', '\u00b2', '\ufeff', '\udc80', '# \u00e9 \ud800\n', '\r\n')
 PARTS = re.compile(r'(\w+ = \w+\()([^;)]*);([^;)]*)(;[^;)]*)?\);')
 

@@ -114,6 +114,22 @@ class RoundTrips(unittest.TestCase):
             wrong = own.replace(old, new)
             self.assertEqual(self.column(head + wrong), ('table t = N, LOW; ' + wrong).index('u', 60) + 1, new)
 
+    def test_loops_and_reads_into_cells(self):
+        """They stand for other tokens too, with variables of their own."""
+        own = 'process p(in i; out o) { array a[3]; for k in 0..2 + 1 { read i a[2 - k]; } ' \
+            'for k in a[0]..a[1] { for to in k..a[2] { write o to * k; } } }'
+        text = f'language 2; {own} network {{ source s; sink z cap 1; p = p(s; z); }}'
+        printed = answer('print', text)
+        net = kpn.Network.from_text(text)
+        self.assertEqual((str(net), second_canonical(text)), (printed, printed))
+        self.assertIn('    read i item;\n    a[2 - k] = item;\n', printed)
+        self.assertIn('    to__ = a[2];\n    while to < to__ {\n', printed)
+        self.assertEqual(dict(net.run({'s': [5, 3, 1]})), {'z': [1, 2, 3, 4, 4, 6, 8]})
+        for old, new in (('for k in 0', 'for 2 in 0'), ('in 0..', '= 0..'), ('..2 + 1', '..'), ('..2 + 1 {', '..2; {'),
+                         ('in 0.', 'in .'), (' - k];', ' - k] = 1;'), (' - k];', ' - k][0];'), ('{ for', 'for')):
+            self.assertRaisesRegex(kpn.KpnError, '21 Grammar at', kpn.Network.from_text, text.replace(old, new))
+        self.assertEqual(self.column('language 2; ' + own.replace('k..', 'm..')), own.index('k..') + 1)
+
     def test_a_process_with_shared_tables(self):
         """Those that it names become its own, and two processes may have two tables of one name."""
         text = 'table t = 7,-1; table no = 0; process %s(in i; out o) { table v = -0; array a[1]; read i x; ' \

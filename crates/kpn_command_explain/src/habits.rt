@@ -94,8 +94,6 @@ pub(crate) enum Habit {
     Table,
     /// `[` after something else than a name, in language 2.
     Index,
-    /// `[` after the variable of a `read`, in language 2.
-    ReadCell,
     /// An array or a table after a statement.
     LateRow,
     /// A table after a process.

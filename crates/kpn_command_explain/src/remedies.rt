@@ -1,7 +1,6 @@
 //! What helps where another language would write it so.
 
 use crate::habits::Habit;
-use crate::sentences::READ_CELL;
 use kpn_text_tokens::Language;
 
 /// What helps with a way of writing in a language.
@@ -17,7 +16,8 @@ fn without_parentheses(habit: Habit) -> &'static [u8] {
     match habit {
         Habit::Slashes =>
             b"A comment begins with `#` and ends with its line. A quotient is written `x / 2`.",
-        Habit::For => b"There is no `for`: count in a variable, as in `while k < 9 { k += 1; }`.",
+        Habit::For =>
+            b"Write `for k in 0..9 { }`, or count in a variable: `while k < 9 { k += 1; }`.",
         Habit::ElseIf => b"Write `else if`: `if x { } else if y { }`.",
         Habit::Changes => b"A variable changes by an assignment of its own: `x += 1;`.",
         Habit::NoCapacity =>
@@ -149,7 +149,6 @@ fn usual(habit: Habit) -> &'static [u8] {
         Habit::Place => PLACE,
         Habit::Table => NO_TABLES,
         Habit::Index => INDEX,
-        Habit::ReadCell => READ_CELL,
         Habit::LateRow => LATE_ROW,
         Habit::LateTable =>
             b"Move it to the front of the text: tables that are shared stand before all processes.",

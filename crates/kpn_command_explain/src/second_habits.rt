@@ -25,8 +25,7 @@ pub(crate) fn habit_of_two(
         Stand::Operand => Ok(operand_habit_of_two(last, here)),
         Stand::Statement | Stand::BeforeElse => Ok(statement_habit_of_two(here)),
         Stand::Declaring => declaring_habit(alloc, front, last, here),
-        Stand::BehindRead if here.starts_with(b"[") => Ok(Some(Habit::ReadCell)),
-        Stand::Elsewhere => Ok(elsewhere_habit_of_two(last, here)),
+        Stand::Elsewhere => elsewhere_habit_of_two(alloc, front, last, here),
         _ => Ok(habit_at(stand, last, here)),
     }
 }
@@ -93,8 +92,6 @@ fn operand_habit_of_two(last: &[u8], here: &[u8]) -> Option<Habit> {
 fn statement_habit_of_two(here: &[u8]) -> Option<Habit> {
     if is_word(here, b"array") || is_word(here, b"table") {
         Some(Habit::LateRow)
-    } else if is_word(here, b"for") {
-        Some(Habit::For)
     } else if begins_comment(here) {
         Some(Habit::Comment)
     } else {
@@ -124,9 +121,17 @@ fn declaring_habit(
     Ok(Some(habit))
 }
 
-// At another place.
-fn elsewhere_habit_of_two(last: &[u8], here: &[u8]) -> Option<Habit> {
-    if is_word(here, b"table") {
+// At another place. Where `in` may stand, `=` is meant for a loop.
+fn elsewhere_habit_of_two(
+    alloc: Global,
+    front: &[u8],
+    last: &[u8],
+    here: &[u8],
+) -> Result<Option<Habit>, AllocError> {
+    let is_loop = assigns(here) && may_stand(alloc, front, b"in")?;
+    Ok(if is_loop {
+        Some(Habit::For)
+    } else if is_word(here, b"table") {
         Some(Habit::LateTable)
     } else if is_word(here, b"array") {
         Some(Habit::Outside)
@@ -134,7 +139,7 @@ fn elsewhere_habit_of_two(last: &[u8], here: &[u8]) -> Option<Habit> {
         Some(Habit::Computed)
     } else {
         habit_at(Stand::Elsewhere, last, here)
-    }
+    })
 }
 
 // An operator with two sides.

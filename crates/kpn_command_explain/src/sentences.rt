@@ -114,10 +114,6 @@ pub(crate) enum Case {
     NoMemory,
 }
 
-/// What helps where an item is read into an array.
-pub(crate) const READ_CELL: &[u8] =
-    b"Read into a variable, and set a cell to it: `read PORT y; x[0] = y;`.";
-
 /// Whether the sentence begins with the name at the place.
 pub(crate) fn is_named(case: Case) -> bool {
     match case {
@@ -206,7 +202,7 @@ pub(crate) fn advice(case: Case) -> &'static [u8] {
         Case::WholeArray => b"Write after it which cell is meant, from 0 on: `x[0]` or `x[k]`.",
         Case::WholeTable => b"Write after it which value is meant, from 0 on: `x[0]` or `x[k]`.",
         Case::SetArray => b"Set its cells one by one, as in `x[0] = 1;`.",
-        Case::ReadArray => READ_CELL,
+        Case::ReadArray => b"Write after it which cell is meant: `read PORT x[0];`.",
         Case::SetTable => b"Declare an array in its place, whose cells may be set: `array x[9];`.",
         Case::UnknownInPort =>
             b"An in port and a variable follow `read`. Declare the port after `in`.",

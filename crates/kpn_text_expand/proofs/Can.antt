@@ -42,3 +42,6 @@ mark_can m = (mark_bytes m, (has_all m, refl))
 
 pub cap_can : CanBe (token.Keyword keyword.Cap)
 cap_can = (codes "cap", (refl, refl))
+
+pub for_can : CanBe (token.Keyword keyword.For)
+for_can = (codes "for", (refl, refl))

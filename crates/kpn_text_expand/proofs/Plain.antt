@@ -8,8 +8,12 @@ use Rattle.kpn_text_tokens.specs.declared.tokens.Token.TheVariants as token
 use Rattle.kpn_text_tokens.specs.Results.{and_then}
 use Rattle.kpn_text_expand.specs.declared.constants.ConstantPlace.TheVariants as place
 use Rattle.kpn_text_expand.specs.Constants.{at_first, gone_past, meant, meant_as, token_passed, step_at, step, steps, value_in, value_of, own_or_shared, finished, finished_at, without_constants}
+use Rattle.kpn_text_expand.specs.Cells.{with_cells}
+use Rattle.kpn_text_expand.specs.Loops.{with_loops}
 use Rattle.kpn_text_expand.specs.Results.{each}
 use Rattle.kpn_text_expand.proofs.PlainCapacities.{capacities_kept}
+use Rattle.kpn_text_expand.proofs.PlainCells.{cells_kept}
+use Rattle.kpn_text_expand.proofs.PlainLoops.{loops_kept}
 use Rattle.kpn_text_expand.proofs.PlainSums.{sums_kept}
 
 -- not in a declaration
@@ -104,7 +108,11 @@ constants_kept end ls are =
 
 -- no other form is there
 forms_kept : (ls : List Lexeme) → ArePlain (kinds ls) → without_forms ls ≡ ls
-forms_kept ls are = ap with_sums (capacities_kept ls are) ∙ sums_kept ls are
+forms_kept ls are =
+    ap (λ ms. with_loops (with_cells (with_sums ms))) (capacities_kept ls are)
+    ∙ ap (λ ms. with_loops (with_cells ms)) (sums_kept ls are)
+    ∙ ap with_loops (cells_kept ls are)
+    ∙ loops_kept ls are
 
 all_kept : (end : ℕ) (ls : List Lexeme) → ArePlain (kinds ls) → all_forms end ls ≡ Ok ls
 unfolding and_then

@@ -16,6 +16,8 @@ use Rattle.kpn_text_expand.specs.Constants.{at_first, gone_past, token_kept, tok
 use Rattle.kpn_text_expand.specs.Results.{each}
 use Rattle.kpn_text_expand.proofs.Can.{CanBe, Spelled, both_spelled, mark_can, number_can}
 use Rattle.kpn_text_expand.proofs.SpelledCapacities.{capacities_spelled}
+use Rattle.kpn_text_expand.proofs.SpelledCells.{cells_spelled}
+use Rattle.kpn_text_expand.proofs.SpelledLoops.{loops_spelled}
 use Rattle.kpn_text_expand.proofs.SpelledSums.{sums_spelled}
 
 -- ---- constants have numbers
@@ -176,7 +178,7 @@ constants_spelled end ls ms spelled e =
     (steps_sound ls at_first s.value (record { left = tt; own = tt; shared = tt }) spelled s.first) s.rest
 
 forms_spelled : (ls : List Lexeme) → Spelled ls → Spelled (without_forms ls)
-forms_spelled ls spelled = sums_spelled _ (capacities_spelled ls spelled)
+forms_spelled ls spelled = loops_spelled _ (cells_spelled _ (sums_spelled _ (capacities_spelled ls spelled)))
 
 all_spelled : (end : ℕ) (ls ms : List Lexeme) → Spelled ls → all_forms end ls ≡ Ok ms → Spelled ms
 all_spelled end ls ms spelled e =

@@ -7,7 +7,9 @@ use Rattle.kpn_text_tokens.specs.Results.{◌>>=◌}
 use Rattle.kpn_text_expand.specs.declared.constants.Constants.{Constants}
 use Rattle.kpn_text_expand.specs.declared.fault.ExpandFault.{ExpandFault}
 use Rattle.kpn_text_expand.specs.Capacities.{with_capacities}
+use Rattle.kpn_text_expand.specs.Cells.{with_cells}
 use Rattle.kpn_text_expand.specs.Constants.{at_first, steps, without_constants}
+use Rattle.kpn_text_expand.specs.Loops.{with_loops}
 use Rattle.kpn_text_expand.specs.Sums.{with_sums}
 
 -- all tokens have gone by
@@ -16,7 +18,7 @@ all_steps ls = steps at_first ls
 
 -- what the other forms leave of tokens without constants
 abbrev pub without_forms : List Lexeme → List Lexeme
-without_forms ls = with_sums (with_capacities ls)
+without_forms ls = with_loops (with_cells (with_sums (with_capacities ls)))
 
 -- what all forms leave
 abbrev pub all_forms : (end : ℕ) → List Lexeme → Result (List Lexeme) ExpandFault

@@ -4,5 +4,8 @@ pub mod Declaration
 pub mod Constants
 pub mod Capacities
 pub mod Sums
+pub mod Hidden
+pub mod Cells
+pub mod Loops
 pub mod Plain
 pub mod Expanding

@@ -6,8 +6,10 @@ ghost use Rattle.kpn_text_expand.specs.Expanding as spec;
 ghost use Rattle.kpn_text_expand.specs.Results.{Yields};
 
 use crate::capacities::with_capacities;
+use crate::cells::with_cells;
 use crate::constants::Constants;
 use crate::fault::ExpandFault;
+use crate::loops::with_loops;
 use crate::sums::with_sums;
 use kpn_lang::Sequence;
 use kpn_text_tokens::{Language, Lexeme};
@@ -45,7 +47,9 @@ fn without_forms<'a>(
     ensures { Yields (λ left. left) result (Ok (spec.without_forms tokens.now)) }
 {
     let filled = with_capacities(alloc, tokens)?;
-    with_sums(alloc, filled.as_slice())
+    let changed = with_sums(alloc, filled.as_slice())?;
+    let read = with_cells(alloc, changed.as_slice())?;
+    with_loops(alloc, read.as_slice())
 }
 
 /// What all forms leave of a text of this length.

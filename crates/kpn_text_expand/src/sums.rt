@@ -108,7 +108,10 @@ fn open_behind(token: &Token<'_>, depth: usize) -> Option<usize>
 }
 
 /// Adds tokens once more.
-fn add_all<'a>(tokens: &mut Sequence<Lexeme<'a>>, more: &[Lexeme<'a>]) -> Result<(), ExpandFault>
+pub(crate) fn add_all<'a>(
+    tokens: &mut Sequence<Lexeme<'a>>,
+    more: &[Lexeme<'a>],
+) -> Result<(), ExpandFault>
     ensures added { OnOk result (tokens.new ≡ tokens.old ++ more.now) }
     ensures only { IfErr result (λ fault. fault ≡ ExpandFault.NoMemory) }
 {

@@ -6,7 +6,7 @@ syntax case match
 syntax match kpnError /[^ \t\r]/
 syntax match kpnPunctuation /[][(){};,]/
 syntax match kpnOperator /[-+*\/%<>!=~&|^?:]/
-syntax match kpnOperator /<=\|>=\|==\|!=\|&&\|||/
+syntax match kpnOperator /\.\.\|<=\|>=\|==\|!=\|&&\|||/
 syntax match kpnNumber /[0-9]\+\%(_[0-9]\+\)*/
 syntax match kpnNumber /0x[0-9A-Fa-f_]\+/
 syntax match kpnNumber /0b[01_]\+/
@@ -16,6 +16,7 @@ syntax match kpnName /[A-Za-z_][A-Za-z0-9_]*/
 syntax match kpnError /[A-Za-z_][A-Za-z0-9_]\{32,}/
 syntax keyword kpnStatement read write if else while
 syntax keyword kpnKeyword process network channel source sink in out par limit cap policy grow
+syntax match kpnStatement /\<for\ze[ \t]\+[A-Za-z_][A-Za-z0-9_]*[ \t]\+in\>/
 syntax match kpnConstant /\%(\<\%(policy\|grow\)[ \t]\+\)\@<=\%(cycles\|all\|one\|double\)\>/
 syntax match kpnKeyword /language\ze[ \t]\+0*2[ \t]*;/
 syntax match kpnKeyword /\<array\ze[ \t]\+[A-Za-z_][A-Za-z0-9_]*[ \t]*\[/
