@@ -9,11 +9,7 @@ mod always;
 #[cfg(test)]
 mod batching;
 #[cfg(test)]
-mod cells;
-#[cfg(test)]
 mod commits;
-#[cfg(test)]
-mod complete;
 #[cfg(test)]
 mod endings;
 #[cfg(test)]
@@ -22,8 +18,6 @@ mod flag;
 mod gates;
 #[cfg(test)]
 mod holding;
-#[cfg(test)]
-mod keeping;
 #[cfg(test)]
 mod locking;
 #[cfg(test)]

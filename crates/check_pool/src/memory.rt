@@ -27,13 +27,13 @@ fn first_commit(
     Ok(Some(book.commit(claim.process, &steps)))
 }
 
-/// How many commits a run on one thread makes, if the network has no source.
-fn commits_of(alloc: Global, network: &Network) -> Result<Option<u64>, AllocError> {
+/// Whether a run on one thread, of a network without a source, makes its eleven commits.
+fn refutes_stops_at_once(alloc: Global, network: &Network) -> Result<bool, AllocError> {
     if network.sources() != 0 {
-        return Ok(None);
+        return Ok(false);
     }
     match run_here(alloc, network, &[], &ALL) {
-        Ok(report) => Ok(Some(report.commits)),
+        Ok(report) => Ok(report.commits == 11),
         Err(fault) => Err(fault),
     }
 }
@@ -44,6 +44,6 @@ fn refutes_always_out_of_memory(rt: HostRuntime) -> Result<(), Fail> {
     let document = read_network(rt.alloc(), TWO.as_bytes())?;
     let network = document.network();
     assert_eq!(rt; first_commit(rt.alloc(), network)?, Some(Ok(Done::Put)));
-    assert_eq!(rt; commits_of(rt.alloc(), network)?, Some(11));
+    assert!(rt; refutes_stops_at_once(rt.alloc(), network)?);
     Ok(())
 }

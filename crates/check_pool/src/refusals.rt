@@ -8,7 +8,10 @@ use crate::endings::is_ready;
 use crate::networks::{copying, pouring};
 use crate::outside::shows;
 use kpn_net::Network;
-use kpn_pool::{Opened, Shared, close, feed, feed_when_room, gather, leave, snapshot, take, work};
+use kpn_pool::{
+    Opened, Shared, close, feed, feed_when_room, gather, leave, snapshot, take, take_when_there,
+    work,
+};
 use kpn_pool_desk::{Go, Job, Refused, SinkSeat, SnapFault, SourceSeat, Why};
 use linked_list_allocator::LocalHeap;
 use std::alloc::{AllocError, Global};
@@ -49,14 +52,23 @@ fn all_refused<'a, J: Job, R: Wait>(
         && leave(rt, shared, sink) == Err(Refused::NoMemory)
         && snapshot(rt, heap, shared, source).err() == Some(SnapFault::NoMemory)
         && shared.try_snapshot(heap).is_err()
-        && take(rt, shared, sink) == Ok(None)
+        && refutes_take_invents_an_item(rt, shared, sink)
         && source.fed().is_empty()
         && shows(&snapshot(rt, alloc, shared, source), &[], &[])
 }
 
+/// Whether nothing is taken from a sink on which nothing was put.
+fn refutes_take_invents_an_item<'a, J: Job, R: Wait>(
+    rt: &R,
+    shared: &Shared<'_, J, &'a LocalHeap>,
+    sink: &mut SinkSeat<&'a LocalHeap>,
+) -> bool {
+    take(rt, shared, sink) == Ok(None) && sink.taken().is_empty()
+}
+
 /// Feeds by three items at a time until memory is refused for one, and then one item. Returns whether the seat and the
 /// run then have what was fed before.
-fn feeds_until_refused<'a, J: Job, R: Wait + Clock>(
+fn refutes_feed_drops_its_item<'a, J: Job, R: Wait + Clock>(
     rt: &R,
     alloc: Global,
     shared: &Shared<'_, J, &'a LocalHeap>,
@@ -119,7 +131,7 @@ fn is_fed<'a, J: Job, R: Wait + Clock>(
     let are_refused = all_refused(rt, alloc, heap, &shared, &mut source, &mut sink);
     filling.destroy_empty();
     let is_shown = shows(&snapshot(rt, heap, &shared, &source), &[], &[]);
-    let are_fed = feeds_until_refused(rt, alloc, &shared, &mut source);
+    let are_fed = refutes_feed_drops_its_item(rt, alloc, &shared, &mut source);
     Ok(are_refused && is_shown && are_fed)
 }
 
@@ -173,23 +185,17 @@ fn is_gathered<'a, J: Job, R: Wait>(
     Ok(has_ended && has_ended_again && are_kept && is_new && book.history().len() == 3)
 }
 
-/// Takes until memory is refused. Returns whether the seat then has what was taken before.
-fn takes_until_refused<'a, J: Job, R: Wait>(
+/// Takes all until memory is refused for an item, and then one item. Returns whether the seat has what was taken before.
+fn takes_until_refused<'a, J: Job, R: Wait + Clock>(
     rt: &R,
     shared: &Shared<'_, J, &'a LocalHeap>,
     sink: &mut SinkSeat<&'a LocalHeap>,
 ) -> bool {
-    for _ in 0..1_000 {
-        let before = sink.taken().len();
-        match take(rt, shared, sink) {
-            Ok(Some(_)) => {}
-            Ok(None) => return false,
-            Err(refused) => {
-                return refused == Refused::NoMemory && sink.taken().len() == before;
-            }
-        }
-    }
-    false
+    let all = take_when_there(rt, shared, sink);
+    let before = sink.taken().len();
+    let one = take(rt, shared, sink);
+    let are_refused = all == Err(Refused::NoMemory) && one == Err(Refused::NoMemory);
+    are_refused && before > 0 && sink.taken().len() == before
 }
 
 /// A run whose worker writes until the heap is full. Returns whether all is answered as it has to be.
