@@ -25,8 +25,6 @@ mod looking;
 #[cfg(test)]
 mod meeting;
 #[cfg(test)]
-mod memory;
-#[cfg(test)]
 mod moving;
 #[cfg(test)]
 mod networks;
@@ -40,6 +38,8 @@ mod regions;
 mod resting;
 #[cfg(test)]
 mod runs;
+#[cfg(test)]
+mod scenes;
 #[cfg(test)]
 mod serving;
 #[cfg(test)]
