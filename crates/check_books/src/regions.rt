@@ -19,7 +19,10 @@ fn claim_twice<'n, O: Write>(book: &mut Book<'n>, batch: &mut Batch<'n>, out: &m
     put_back_held(book);
     let held = book.counts().held;
     let claimed = book.claim_region(&[1, 0], batch, 9, false)?;
-    writeln!(out, "  {is_held}, then {while_held}; {held} are held, then {claimed}")?;
+    writeln!(
+        out,
+        "  {is_held}, then {while_held}; {held} are held, then {claimed}"
+    )?;
     Ok(())
 }
 

@@ -187,17 +187,24 @@ fn is_gathered<'a, J: Job, R: Wait>(
     Ok(has_ended && has_ended_again && are_kept && is_new && book.history().len() == 3)
 }
 
-/// Takes all until memory is refused for an item, and then one item. Returns whether the seat has what was taken before.
+/// Takes all, and then one item, while the heap is full, for a seat whose list has places. Returns whether memory is
+/// refused for an item, and the seat has what was taken before.
 fn takes_until_refused<'a, J: Job, R: Wait + Clock>(
     rt: &R,
+    heap: &'a LocalHeap,
     shared: &Shared<'_, J, &'a LocalHeap>,
     sink: &mut SinkSeat<&'a LocalHeap>,
 ) -> bool {
-    let all = take_when_there(rt, shared, sink);
+    let Some(filling) = fill(heap) else {
+        return false;
+    };
     let before = sink.taken().len();
+    let all = take_when_there(rt, shared, sink);
+    let taken = sink.taken().len();
     let one = take(rt, shared, sink);
+    filling.destroy_empty();
     let are_refused = all == Err(Refused::NoMemory) && one == Err(Refused::NoMemory);
-    are_refused && before > 0 && sink.taken().len() == before
+    are_refused && before < taken && sink.taken().len() == taken
 }
 
 /// A run whose worker writes until the heap is full. Returns whether all is answered as it has to be.
@@ -230,10 +237,11 @@ fn is_poured<'a, J: Job, R: Wait + Clock>(
     let is_put_back = is_ready(&shared.try_snapshot(alloc)?);
     let seat = work(rt, &shared, &gate, seat, 1_000);
     let is_halted = seat.why() == Some(Why::Halted);
-    let are_refused = takes_until_refused(rt, &shared, &mut sink);
+    let is_refused = take(rt, &shared, &mut sink) == Err(Refused::NoMemory);
     filling.destroy_empty();
     let is_taken = take(rt, &shared, &mut sink) == Ok(Some(7));
-    Ok(has_ended && is_put_back && is_halted && are_refused && is_taken)
+    let are_refused = takes_until_refused(rt, heap, &shared, &mut sink);
+    Ok(has_ended && is_put_back && is_halted && is_refused && is_taken && are_refused)
 }
 
 #[test]

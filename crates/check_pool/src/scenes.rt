@@ -63,7 +63,15 @@ fn plays_on<R: Threads + Wait + Clock + Sync>(
         Scene::EndsTwice => ends_twice::<Brand, R>(rt, alloc, Blank::new(1), network)?,
         Scene::IsSeen(looks) => is_seen::<Brand, R>(rt, alloc, Blank::new(1), network, looks)?,
         Scene::LooksOn => looks_on::<Brand, R>(rt, alloc, Blank::new(2), network)?,
-        Scene::Meet(why, most, made) => meet::<Brand, R>(rt, alloc, Blank::new(2), network, why, most, made)?,
+        Scene::Meet(why, most, made) => meet::<Brand, R>(
+            rt,
+            alloc,
+            Blank::new(2),
+            network,
+            why,
+            most,
+            made,
+        )?,
         Scene::MovesAll(call) => moves_all::<Brand, R>(rt, alloc, Blank::new(1), network, call)?,
     })
 }

@@ -190,7 +190,11 @@ pub fn are_in_time<R: Threads + Wait + Clock + Sync>(
 /// sink that is then full, on one that is not half full, and behind a gate that holds the other worker.
 #[test]
 fn items_go_from_hand_to_hand(rt: HostRuntime) -> Result<(), Fail> {
-    for (text, held) in [(COPY, None), (COPYING_MANY, None), (COPYING_BESIDE, Some(0))] {
+    for (text, held) in [
+        (COPY, None),
+        (COPYING_MANY, None),
+        (COPYING_BESIDE, Some(0)),
+    ] {
         let scene = Scene::AreInTime(held, Task::HandsOver, Why::Halted);
         assert!(rt; plays(&rt, rt.alloc(), text, scene)?, "{text}");
     }
