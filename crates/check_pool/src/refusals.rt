@@ -5,11 +5,15 @@ ghost use Rattle.kpn_history.specs.declared.keeping.Keeping.TheVariants.{All};
 
 use crate::always::Always;
 use crate::endings::is_ready;
-use crate::networks::{copying, pouring};
+use crate::networks::POURING;
 use crate::outside::shows;
 use kpn_net::Network;
-use kpn_pool::{Opened, Shared, close, feed, feed_when_room, gather, leave, snapshot, take, work};
+use kpn_pool::{
+    Opened, Shared, close, feed, feed_when_room, gather, leave, snapshot, take, take_when_there,
+    work,
+};
 use kpn_pool_desk::{Go, Job, Refused, SinkSeat, SnapFault, SourceSeat, Why};
+use kpn_text::read_network;
 use linked_list_allocator::LocalHeap;
 use std::alloc::{AllocError, Global};
 use std::marker::Brand;
@@ -18,6 +22,7 @@ use std::sync::ledger::Blank;
 use std::test::Fail;
 use std::time::Clock;
 use test_support::heaps::fill;
+use test_support::texts::COPY;
 
 /// How many bytes the heap of a test has.
 const HEAP: usize = 16_384;
@@ -49,14 +54,23 @@ fn all_refused<'a, J: Job, R: Wait>(
         && leave(rt, shared, sink) == Err(Refused::NoMemory)
         && snapshot(rt, heap, shared, source).err() == Some(SnapFault::NoMemory)
         && shared.try_snapshot(heap).is_err()
-        && take(rt, shared, sink) == Ok(None)
+        && refutes_take_invents_an_item(rt, shared, sink)
         && source.fed().is_empty()
         && shows(&snapshot(rt, alloc, shared, source), &[], &[])
 }
 
+/// Whether nothing is taken from a sink on which nothing was put.
+fn refutes_take_invents_an_item<'a, J: Job, R: Wait>(
+    rt: &R,
+    shared: &Shared<'_, J, &'a LocalHeap>,
+    sink: &mut SinkSeat<&'a LocalHeap>,
+) -> bool {
+    take(rt, shared, sink) == Ok(None) && sink.taken().is_empty()
+}
+
 /// Feeds by three items at a time until memory is refused for one, and then one item. Returns whether the seat and the
 /// run then have what was fed before.
-fn feeds_until_refused<'a, J: Job, R: Wait + Clock>(
+fn refutes_feed_drops_its_item<'a, J: Job, R: Wait + Clock>(
     rt: &R,
     alloc: Global,
     shared: &Shared<'_, J, &'a LocalHeap>,
@@ -119,7 +133,7 @@ fn is_fed<'a, J: Job, R: Wait + Clock>(
     let are_refused = all_refused(rt, alloc, heap, &shared, &mut source, &mut sink);
     filling.destroy_empty();
     let is_shown = shows(&snapshot(rt, heap, &shared, &source), &[], &[]);
-    let are_fed = feeds_until_refused(rt, alloc, &shared, &mut source);
+    let are_fed = refutes_feed_drops_its_item(rt, alloc, &shared, &mut source);
     Ok(are_refused && is_shown && are_fed)
 }
 
@@ -173,23 +187,24 @@ fn is_gathered<'a, J: Job, R: Wait>(
     Ok(has_ended && has_ended_again && are_kept && is_new && book.history().len() == 3)
 }
 
-/// Takes until memory is refused. Returns whether the seat then has what was taken before.
-fn takes_until_refused<'a, J: Job, R: Wait>(
+/// Takes all, and then one item, while the heap is full, for a seat whose list has places. Returns whether memory is
+/// refused for an item, and the seat has what was taken before.
+fn takes_until_refused<'a, J: Job, R: Wait + Clock>(
     rt: &R,
+    heap: &'a LocalHeap,
     shared: &Shared<'_, J, &'a LocalHeap>,
     sink: &mut SinkSeat<&'a LocalHeap>,
 ) -> bool {
-    for _ in 0..1_000 {
-        let before = sink.taken().len();
-        match take(rt, shared, sink) {
-            Ok(Some(_)) => {}
-            Ok(None) => return false,
-            Err(refused) => {
-                return refused == Refused::NoMemory && sink.taken().len() == before;
-            }
-        }
-    }
-    false
+    let Some(filling) = fill(heap) else {
+        return false;
+    };
+    let before = sink.taken().len();
+    let all = take_when_there(rt, shared, sink);
+    let taken = sink.taken().len();
+    let one = take(rt, shared, sink);
+    filling.destroy_empty();
+    let are_refused = all == Err(Refused::NoMemory) && one == Err(Refused::NoMemory);
+    are_refused && before < taken && sink.taken().len() == taken
 }
 
 /// A run whose worker writes until the heap is full. Returns whether all is answered as it has to be.
@@ -222,29 +237,31 @@ fn is_poured<'a, J: Job, R: Wait + Clock>(
     let is_put_back = is_ready(&shared.try_snapshot(alloc)?);
     let seat = work(rt, &shared, &gate, seat, 1_000);
     let is_halted = seat.why() == Some(Why::Halted);
-    let are_refused = takes_until_refused(rt, &shared, &mut sink);
+    let is_refused = take(rt, &shared, &mut sink) == Err(Refused::NoMemory);
     filling.destroy_empty();
     let is_taken = take(rt, &shared, &mut sink) == Ok(Some(7));
-    Ok(has_ended && is_put_back && is_halted && are_refused && is_taken)
+    let are_refused = takes_until_refused(rt, heap, &shared, &mut sink);
+    Ok(has_ended && is_put_back && is_halted && is_refused && is_taken && are_refused)
 }
 
 #[test]
 fn refused_calls_change_nothing(rt: HostRuntime) -> Result<(), Fail> {
     let alloc = rt.alloc();
-    let copying = copying(alloc, 1)?;
-    let pouring = pouring(alloc)?;
+    let document = read_network(alloc, COPY.as_bytes())?;
+    let other = read_network(alloc, POURING.as_bytes())?;
+    let (copying, pouring) = (document.network(), other.network());
     let heap = LocalHeap::new(alloc, HEAP)?;
     let used = heap.used();
     let filling = fill(&heap).expect(&rt, "a block is left");
-    assert!(rt; !opens::<Brand>(&heap, Blank::new(1), &copying));
+    assert!(rt; !opens::<Brand>(&heap, Blank::new(1), copying));
     filling.destroy_empty();
     assert_eq!(rt; heap.used(), used);
-    assert!(rt; opens::<Brand>(&heap, Blank::new(1), &copying));
-    let fed = is_fed::<Brand, HostRuntime>(&rt, alloc, &heap, Blank::new(1), &copying)?;
+    assert!(rt; opens::<Brand>(&heap, Blank::new(1), copying));
+    let fed = is_fed::<Brand, HostRuntime>(&rt, alloc, &heap, Blank::new(1), copying)?;
     assert!(rt; fed);
-    let gathered = is_gathered::<Brand, HostRuntime>(&rt, &heap, Blank::new(1), &copying)?;
+    let gathered = is_gathered::<Brand, HostRuntime>(&rt, &heap, Blank::new(1), copying)?;
     assert!(rt; gathered);
-    let poured = is_poured::<Brand, HostRuntime>(&rt, alloc, &heap, Blank::new(1), &pouring)?;
+    let poured = is_poured::<Brand, HostRuntime>(&rt, alloc, &heap, Blank::new(1), pouring)?;
     assert!(rt; poured);
     Ok(())
 }

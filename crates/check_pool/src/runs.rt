@@ -4,6 +4,7 @@ ghost use Rattle.kpn_net.specs.Iteration.{sources};
 
 use crate::abandoning::TestGate;
 use crate::holding::Held;
+use crate::networks::{SPINNING, TWO_SEVENS};
 use kpn_book::{Limits, Outcome, Report, run_here};
 use kpn_history::{Event, History};
 use kpn_lang::Sequence;
@@ -19,16 +20,6 @@ use std::time::Clock;
 use test_support::texts::{COPY, TWO};
 
 const EMPTY: &str = "network { }";
-
-/// Processes 0 and 1 write 7 once, each to a sink of its own.
-const SEVENS: &str = "process one(out z) { write z 7; }
-network { sink a cap 1; sink b cap 1; p = one(; a); q = one(; b); }
-";
-
-/// A process that steps for ever.
-const SPINNER: &str = "process spin() { while 1 { } }
-network { s = spin(;); }
-";
 
 /// A process that writes an item to a sink, beside one that steps for ever.
 const SPIN: &str = "process w(out z) { write z 312; }
@@ -383,7 +374,7 @@ fn a_gate_that_always_abandons(rt: HostRuntime) -> Result<(), Fail> {
     for (text, workers, limits, outcome) in [
         (EMPTY, 2, ALL, Ok(Outcome::Ended)),
         (TWO, 2, ALL, Err(RunFault::Abandoned)),
-        (SPINNER, 1, FEW, Err(RunFault::Abandoned)),
+        (SPINNING, 1, FEW, Err(RunFault::Abandoned)),
     ] {
         assert_eq!(rt;
             comes_to(&rt, rt.alloc(), text, workers, 0, u64::MAX, &limits)?,
@@ -416,7 +407,7 @@ fn first_event<R: Threads + Wait + Clock + Sync>(
     held: Held,
 ) -> Result<Option<Event>, Fail> {
     let gate = TestGate::holds(held, false);
-    let ran = run_text(rt, alloc, SEVENS, &[], 2, &gate, &ALL)?;
+    let ran = run_text(rt, alloc, TWO_SEVENS, &[], 2, &gate, &ALL)?;
     let Some(
         Beside {
             workers: Ok(told),
@@ -432,33 +423,25 @@ fn first_event<R: Threads + Wait + Clock + Sync>(
     Ok(told.first)
 }
 
-/// Both processes are at the gate at once, whichever call the gate holds.
-#[test]
-fn refutes_one_worker_steps_everything(rt: HostRuntime) -> Result<(), Fail> {
-    for process in [None, Some(0), Some(1)] {
-        let held = Held { process, until: 1 };
-        assert!(rt;
-            first_event(&rt, rt.alloc(), held)?.is_some(),
-            "{process:?} is held"
-        );
-    }
-    Ok(())
-}
-
-/// How many commits a run on one thread makes.
-fn commits_here<R: Threads + Wait + Clock + Sync>(
+/// Whether a run of `TWO` on one thread makes its eleven commits: four puts, three gets, a wait and an end of each
+/// process.
+fn refutes_stops_at_once<R: Threads + Wait + Clock + Sync>(
     rt: &R,
     alloc: Global,
-    text: &str,
-) -> Result<Option<u64>, Fail> {
-    let ran = run_text(rt, alloc, text, &[], 1, &TestGate::open(false), &ALL)?;
-    Ok(ran.map(|ran| ran.here.commits))
+) -> Result<bool, Fail> {
+    let ran = run_text(rt, alloc, TWO, &[], 1, &TestGate::open(false), &ALL)?;
+    Ok(ran.is_some_and(|ran| ran.here.commits == 11))
 }
 
-/// The history shows what the workers did: the process that the gate holds puts its item later. On one thread `TWO` is
-/// four puts, three gets, a wait and an end of each process.
+/// Both processes are at the gate at once, whichever call the gate holds. The history shows what the workers did: the
+/// process that the gate holds puts its item later.
 #[test]
 fn journals_from_rounds(rt: HostRuntime) -> Result<(), Fail> {
+    for process in [None, Some(0), Some(1)] {
+        let held = Held { process, until: 1 };
+        let first = first_event(&rt, rt.alloc(), held)?;
+        assert!(rt; first.is_some(), "{process:?} is held");
+    }
     for (process, first) in [(0, Event::Put(1, 1, 7)), (1, Event::Put(0, 0, 7))] {
         let held = Held {
             process: Some(process),
@@ -466,6 +449,6 @@ fn journals_from_rounds(rt: HostRuntime) -> Result<(), Fail> {
         };
         assert_eq!(rt; first_event(&rt, rt.alloc(), held)?, Some(first));
     }
-    assert_eq!(rt; commits_here(&rt, rt.alloc(), TWO)?, Some(11));
+    assert!(rt; refutes_stops_at_once(&rt, rt.alloc())?);
     Ok(())
 }
