@@ -8,7 +8,12 @@
 
 void kpn_open_chief(struct kpn_chief *made, const struct kpn_network *net, const struct kpn_cut *of,
                     bool wants_enough) {
-  *made = (struct kpn_chief){.net = net, .cut = of, .wants_enough = wants_enough};
+  *made = (struct kpn_chief){.net = net,
+                             .cut = of,
+                             .wants_enough = wants_enough,
+                             .ends = kpn_memory(net->channel_count * sizeof *made->ends),
+                             .standings = kpn_memory(net->instance_count * sizeof *made->standings),
+                             .items = kpn_memory(net->channel_count * sizeof *made->items)};
   /* A rank without a sink has enough from the start. */
   for (int rank = 0; rank < of->ranks; rank++) {
     made->has_enough[rank] = true;
@@ -24,6 +29,9 @@ void kpn_free_chief(struct kpn_chief *of) {
   for (size_t c = 0; c < of->net->channel_count; c++) {
     kpn_free_words(&of->items[c]);
   }
+  free(of->ends);
+  free(of->standings);
+  free(of->items);
   for (int rank = 0; rank < of->cut->ranks; rank++) {
     kpn_free_text(&of->traces[rank]);
     kpn_free_text(&of->parts[rank]);
@@ -122,7 +130,7 @@ static int if_full(const struct kpn_chief *of, int process) {
 /* Marks each process with the first one of the cycle in which it waits, and with OUTSIDE if it waits in none. */
 static void find_cycles(const struct kpn_chief *of, int *cycle_of) {
   const int count = (int)of->net->instance_count;
-  int seen_from[MOST_INSTANCES];
+  int *seen_from = kpn_memory((size_t)count * sizeof *seen_from);
   for (int p = 0; p < count; p++) {
     seen_from[p] = cycle_of[p] = OUTSIDE;
   }
@@ -139,6 +147,7 @@ static void find_cycles(const struct kpn_chief *of, int *cycle_of) {
       cycle_of[r] = q;
     }
   }
+  free(seen_from);
 }
 
 /* The process of a cycle that waits on its smallest full channel; OUTSIDE if there is none. */
@@ -204,14 +213,12 @@ static enum kpn_outcome outcome_of_waits(const struct kpn_chief *of, const int *
   return found;
 }
 
-struct kpn_verdict kpn_judge(struct kpn_chief *of) {
+/* The verdict on a run that has not enough yet. */
+static struct kpn_verdict judge_waits(struct kpn_chief *of, int *cycle_of) {
   struct kpn_verdict wanted = {0};
-  int cycle_of[MOST_INSTANCES], smallest = OUTSIDE;
+  int smallest = OUTSIDE;
   const int count = (int)of->net->instance_count;
   const bool is_alone = of->cut->ranks == 1;
-  if (is_enough(of)) {
-    return (struct kpn_verdict){.outcome = ENOUGH};
-  }
   find_cycles(of, cycle_of);
   for (int p = 0; p < count && !is_alone; p++) {
     if (cycle_of[p] == p && grow_for(of, smallest_of_cycle(of, cycle_of, p), &wanted)) {
@@ -231,4 +238,14 @@ struct kpn_verdict kpn_judge(struct kpn_chief *of) {
     wanted.outcome = STOPPED;
   }
   return wanted;
+}
+
+struct kpn_verdict kpn_judge(struct kpn_chief *of) {
+  if (is_enough(of)) {
+    return (struct kpn_verdict){.outcome = ENOUGH};
+  }
+  int *cycle_of = kpn_memory(of->net->instance_count * sizeof *cycle_of);
+  const struct kpn_verdict found = judge_waits(of, cycle_of);
+  free(cycle_of);
+  return found;
 }

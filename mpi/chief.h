@@ -35,9 +35,9 @@ struct kpn_chief {
   size_t grows[MOST_RANKS]; /* how many growths were asked of each rank */
   bool has_enough[MOST_RANKS];
   bool wants_enough, has_stopped;
-  struct kpn_ends ends[MOST_CHANNELS];
-  struct kpn_standing standings[MOST_INSTANCES];
-  struct kpn_words items[MOST_CHANNELS];                 /* of the sinks, at the end */
+  struct kpn_ends *ends;
+  struct kpn_standing *standings;
+  struct kpn_words *items; /* of the sinks, at the end */
   struct kpn_text traces[MOST_RANKS], parts[MOST_RANKS]; /* what the ranks hand over for a certificate */
   int handed_count;
 };

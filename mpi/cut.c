@@ -9,71 +9,142 @@
 /* How far the largest part may be above the mean. */
 #define LARGEST_SHARE 1.15
 
-struct loops {
-  const struct kpn_network *net;
-  bool reaches[MOST_INSTANCES][MOST_INSTANCES]; /* along channels */
-  size_t loop_of[MOST_INSTANCES];               /* the first instance of its loop, or itself */
-  size_t size[MOST_INSTANCES];                  /* of a loop, by its first instance */
-  size_t row[MOST_INSTANCES], row_count;        /* the first instances of loops along the channels */
-  bool is_laid[MOST_INSTANCES];
-};
-
 static bool is_inner(const struct kpn_channel *it) {
   return it->writer != OUTSIDE && it->reader != OUTSIDE;
 }
 
-static void find_loops(const struct kpn_network *net, struct loops *found) {
-  const size_t count = net->instance_count;
-  for (size_t c = 0; c < net->channel_count; c++) {
-    if (is_inner(&net->channels[c])) {
-      found->reaches[net->channels[c].writer][net->channels[c].reader] = true;
-    }
-  }
-  for (size_t k = 0; k < count; k++) {
-    for (size_t p = 0; p < count; p++) {
-      for (size_t q = 0; found->reaches[p][k] && q < count; q++) {
-        found->reaches[p][q] |= found->reaches[k][q];
+/* The channels that lead from one group of instances to another, listed for both, in order of number. A group has the
+   number of an instance. */
+struct lists {
+  size_t *from; /* where the list of each group begins, and the last one ends */
+  size_t *channels;
+};
+
+static struct lists lists_of(const struct kpn_network *net, const size_t *group_of) {
+  struct lists made = {kpn_memory((net->instance_count + 2) * sizeof *made.from),
+                       kpn_memory(2 * net->channel_count * sizeof *made.channels)};
+  for (int pass = 0; pass < 2; pass++) {
+    for (size_t c = 0; c < net->channel_count; c++) {
+      const struct kpn_channel *it = &net->channels[c];
+      if (!is_inner(it) || group_of[it->writer] == group_of[it->reader]) {
+        continue;
+      }
+      const size_t groups[] = {group_of[it->writer], group_of[it->reader]};
+      for (int k = 0; k < 2; k++) {
+        if (pass) {
+          made.channels[made.from[groups[k] + 1]++] = c;
+        } else {
+          made.from[groups[k] + 2]++;
+        }
       }
     }
-  }
-  for (size_t p = 0; p < count; p++) {
-    size_t first = 0;
-    while (first < p && !(found->reaches[p][first] && found->reaches[first][p])) {
-      first++;
+    for (size_t p = 0; !pass && p < net->instance_count; p++) {
+      made.from[p + 2] += made.from[p + 1];
     }
-    found->loop_of[p] = first;
-    found->size[first]++;
   }
+  return made;
 }
 
-/* Lays a loop into the row after all that it reaches. The row is turned round later. */
+static void free_lists(struct lists *of) {
+  free(of->from);
+  free(of->channels);
+}
+
+struct loops {
+  const struct kpn_network *net;
+  size_t *loop_of;        /* the first instance of its loop, or itself */
+  size_t *size;           /* of a loop, by its first instance */
+  size_t *row, row_count; /* the first instances of loops along the channels */
+  bool *is_laid;
+  struct lists lists;
+};
+
+/* Lays a loop into the row after all that it reaches. */
 static void lay(struct loops *of, size_t loop) {
   of->is_laid[loop] = true;
-  for (size_t c = 0; c < of->net->channel_count; c++) {
-    const struct kpn_channel *it = &of->net->channels[c];
-    if (!is_inner(it) || of->loop_of[it->writer] != loop || of->is_laid[of->loop_of[it->reader]]) {
-      continue;
+  for (size_t k = of->lists.from[loop]; k < of->lists.from[loop + 1]; k++) {
+    const struct kpn_channel *it = &of->net->channels[of->lists.channels[k]];
+    if (of->loop_of[it->writer] == loop && !of->is_laid[of->loop_of[it->reader]]) {
+      lay(of, of->loop_of[it->reader]);
     }
-    lay(of, of->loop_of[it->reader]);
   }
   of->row[of->row_count++] = loop;
 }
 
-static struct loops *loops_of(const struct kpn_network *net) {
-  struct loops *found = kpn_memory(sizeof *found);
-  found->net = net;
-  find_loops(net, found);
-  for (size_t p = 0; p < net->instance_count; p++) {
-    if (found->loop_of[p] == p && !found->is_laid[p]) {
-      lay(found, p);
+static void lay_all(struct loops *of) {
+  of->row_count = 0;
+  memset(of->is_laid, false, of->net->instance_count * sizeof *of->is_laid);
+  for (size_t p = 0; p < of->net->instance_count; p++) {
+    if (of->loop_of[p] == p && !of->is_laid[p]) {
+      lay(of, p);
     }
   }
+}
+
+/* Puts an instance that is laid, and all laid ones that reach it, into a loop. */
+static void gather(struct loops *of, size_t instance, size_t loop) {
+  of->is_laid[instance] = false;
+  of->loop_of[instance] = loop;
+  for (size_t k = of->lists.from[instance]; k < of->lists.from[instance + 1]; k++) {
+    const struct kpn_channel *it = &of->net->channels[of->lists.channels[k]];
+    if ((size_t)it->reader == instance && of->is_laid[it->writer]) {
+      gather(of, (size_t)it->writer, loop);
+    }
+  }
+}
+
+/* Finds the loops by S. R. Kosaraju's two searches: the last of the row that is in no loop yet, and all that reach it,
+   make one. */
+static void find_loops(struct loops *of) {
+  const size_t count = of->net->instance_count;
+  size_t *first = kpn_memory(count * sizeof *first);
+  for (size_t p = 0; p < count; p++) {
+    of->loop_of[p] = first[p] = p;
+  }
+  of->lists = lists_of(of->net, first);
+  lay_all(of);
+  for (size_t k = count; k > 0; k--) {
+    if (of->is_laid[of->row[k - 1]]) {
+      gather(of, of->row[k - 1], of->row[k - 1]);
+    }
+  }
+  for (size_t p = count; p > 0; p--) {
+    first[of->loop_of[p - 1]] = p - 1;
+  }
+  for (size_t p = 0; p < count; p++) {
+    of->loop_of[p] = first[of->loop_of[p]];
+    of->size[of->loop_of[p]]++;
+  }
+  free_lists(&of->lists);
+  free(first);
+}
+
+static struct loops *loops_of(const struct kpn_network *net) {
+  struct loops *found = kpn_memory(sizeof *found);
+  const size_t count = net->instance_count;
+  *found = (struct loops){.net = net,
+                          .loop_of = kpn_memory(count * sizeof *found->loop_of),
+                          .size = kpn_memory(count * sizeof *found->size),
+                          .row = kpn_memory(count * sizeof *found->row),
+                          .is_laid = kpn_memory(count * sizeof *found->is_laid)};
+  find_loops(found);
+  found->lists = lists_of(net, found->loop_of);
+  lay_all(found);
   for (size_t k = 0; 2 * k + 1 < found->row_count; k++) {
     const size_t other = found->row_count - 1 - k, first = found->row[k];
     found->row[k] = found->row[other];
     found->row[other] = first;
   }
   return found;
+}
+
+static void free_loops(struct loops *of) {
+  free(of->loop_of);
+  free(of->size);
+  free(of->row);
+  free(of->is_laid);
+  free_lists(&of->lists);
+  free(of);
 }
 
 /* What moving a loop has to look at: the ranks at the other ends of its channels. */
@@ -84,11 +155,8 @@ struct surroundings {
 
 static void look_around(const struct loops *of, const struct kpn_cut *made, size_t loop, struct surroundings *around) {
   *around = (struct surroundings){.least = 0, .most = made->ranks - 1};
-  for (size_t c = 0; c < of->net->channel_count; c++) {
-    const struct kpn_channel *it = &of->net->channels[c];
-    if (!is_inner(it) || (of->loop_of[it->writer] == loop) == (of->loop_of[it->reader] == loop)) {
-      continue;
-    }
+  for (size_t k = of->lists.from[loop]; k < of->lists.from[loop + 1]; k++) {
+    const struct kpn_channel *it = &of->net->channels[of->lists.channels[k]];
     const bool is_out = of->loop_of[it->writer] == loop;
     const int other = made->rank_of[is_out ? it->reader : it->writer];
     around->neighbours[other]++;
@@ -132,11 +200,16 @@ static bool move_loop(const struct loops *of, struct kpn_cut *made, size_t loop,
   return true;
 }
 
+static void start_cut(const struct kpn_network *net, int ranks, struct kpn_cut *made) {
+  free(made->rank_of);
+  *made = (struct kpn_cut){ranks, kpn_memory(net->instance_count * sizeof *made->rank_of)};
+}
+
 void kpn_choose_cut(const struct kpn_network *net, int ranks, struct kpn_cut *made) {
   enum { TURNS = 20 };
   struct loops *of = loops_of(net);
   size_t sizes[MOST_RANKS] = {0}, before = 0;
-  made->ranks = ranks;
+  start_cut(net, ranks, made);
   for (size_t k = 0; k < of->row_count; k++) {
     const size_t size = of->size[of->row[k]];
     const int rank = (int)(((2 * before + size) * (size_t)ranks - 1) / (2 * net->instance_count));
@@ -151,13 +224,16 @@ void kpn_choose_cut(const struct kpn_network *net, int ranks, struct kpn_cut *ma
       has_moved |= move_loop(of, made, of->row[k], sizes);
     }
   }
-  free(of);
+  free_loops(of);
 }
 
 size_t kpn_read_cut(const struct kpn_network *net, const char *lines, size_t length, int ranks, struct kpn_cut *made) {
-  bool has_line[MOST_INSTANCES] = {false};
+  enum { NO_RANK = -1 };
   size_t number = 0;
-  made->ranks = ranks;
+  start_cut(net, ranks, made);
+  for (size_t p = 0; p < net->instance_count; p++) {
+    made->rank_of[p] = NO_RANK;
+  }
   for (const char *at = lines, *end = lines + length; at < end; number++) {
     const char *stop = memchr(at, '\n', (size_t)(end - at));
     if (!stop) {
@@ -167,15 +243,15 @@ size_t kpn_read_cut(const struct kpn_network *net, const char *lines, size_t len
     const int found = equals ? kpn_find_instance(net, at, (size_t)(equals - at)) : -1;
     char *rest;
     const long rank = equals ? strtol(equals + 1, &rest, 10) : -1;
-    if (found < 0 || has_line[found] || rank < 0 || rank >= ranks || rest != stop || rest == equals + 1) {
+    if (found < 0 || made->rank_of[found] != NO_RANK || rank < 0 || rank >= ranks || rest != stop ||
+        rest == equals + 1) {
       return number + 1;
     }
     made->rank_of[found] = (int)rank;
-    has_line[found] = true;
     at = stop + 1;
   }
   for (size_t p = 0; p < net->instance_count; p++) {
-    if (!has_line[p]) {
+    if (made->rank_of[p] == NO_RANK) {
       return number + 1;
     }
   }
@@ -209,20 +285,19 @@ static size_t head_of(size_t *heads, size_t of) {
   return of;
 }
 
-/* Whether channels join the ends of this one beside it, in either direction. */
-static bool is_beside_others(const struct kpn_network *net, size_t number) {
-  size_t heads[MOST_INSTANCES];
-  for (size_t p = 0; p < net->instance_count; p++) {
-    heads[p] = p;
-  }
+/* Joins the ends of the channels within ranks, or of the cut ones. Returns whether a cut one had joined ends before. */
+static bool join_ends(const struct kpn_network *net, const struct kpn_cut *of, bool is_cut, size_t *heads) {
+  bool found = false;
   for (size_t c = 0; c < net->channel_count; c++) {
-    if (c == number || !is_inner(&net->channels[c])) {
+    if (!is_inner(&net->channels[c]) || kpn_is_cut(net, of, c) != is_cut) {
       continue;
     }
-    heads[head_of(heads, (size_t)net->channels[c].writer)] = head_of(heads, (size_t)net->channels[c].reader);
+    const size_t writer = head_of(heads, (size_t)net->channels[c].writer);
+    const size_t reader = head_of(heads, (size_t)net->channels[c].reader);
+    found |= is_cut && writer == reader;
+    heads[writer] = reader;
   }
-  const struct kpn_channel *it = &net->channels[number];
-  return head_of(heads, (size_t)it->writer) == head_of(heads, (size_t)it->reader);
+  return found;
 }
 
 bool kpn_may_grow_over_ranks(const struct kpn_network *net, const struct kpn_cut *of) {
@@ -232,12 +307,15 @@ bool kpn_may_grow_over_ranks(const struct kpn_network *net, const struct kpn_cut
   if (net->grows_at_stops) {
     return true;
   }
-  for (size_t c = 0; c < net->channel_count; c++) {
-    if (kpn_is_cut(net, of, c) && is_beside_others(net, c)) {
-      return true;
-    }
+  size_t *heads = kpn_memory(net->instance_count * sizeof *heads);
+  for (size_t p = 0; p < net->instance_count; p++) {
+    heads[p] = p;
   }
-  return false;
+  /* Processes can wait in a cycle only along channels that make a ring, whatever their directions. */
+  join_ends(net, of, false, heads);
+  const bool found = join_ends(net, of, true, heads);
+  free(heads);
+  return found;
 }
 
 static void print_loops(const struct kpn_network *net, const struct kpn_cut *of, struct kpn_text *into) {
@@ -258,7 +336,7 @@ static void print_loops(const struct kpn_network *net, const struct kpn_cut *of,
     }
     kpn_print_to(into, "\n");
   }
-  free(found);
+  free_loops(found);
 }
 
 void kpn_print_plan(const struct kpn_network *net, const struct kpn_cut *of, struct kpn_text *into) {

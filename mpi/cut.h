@@ -8,10 +8,12 @@ enum { MOST_RANKS = 256, USUAL_ROOM = 1024 };
 
 struct kpn_cut {
   int ranks;
-  int rank_of[MOST_INSTANCES];
+  int *rank_of; /* of each instance */
 };
 
-/* Cuts a network into parts of nearly equal numbers of instances, so that few channels are cut and no loop. */
+/* Each of these makes a cut in place of the one before.
+
+   Cuts a network into parts of nearly equal numbers of instances, so that few channels are cut and no loop. */
 void kpn_choose_cut(const struct kpn_network *net, int ranks, struct kpn_cut *made);
 
 /* Reads lines INSTANCE=RANK, one for each instance. Returns the number of the first line that is wrong, with the number

@@ -53,13 +53,24 @@ static bool same(struct kpn_span name, const char *at, size_t length) {
   return name.length == length && !memcmp(name.at, at, length);
 }
 
-int kpn_find_channel(const struct kpn_network *net, const char *name, size_t length) {
+static int compare(const void *first, const void *second) {
+  const struct kpn_span a = (*(struct kpn_channel *const *)first)->name, b = (*(struct kpn_channel *const *)second)->name;
+  const int found = memcmp(a.at, b.at, a.length < b.length ? a.length : b.length);
+  return found ? found : (a.length > b.length) - (a.length < b.length);
+}
+
+static void sort_channels(struct kpn_network *net) {
+  net->by_name = kpn_memory(net->channel_count * sizeof *net->by_name);
   for (size_t c = 0; c < net->channel_count; c++) {
-    if (same(net->channels[c].name, name, length)) {
-      return (int)c;
-    }
+    net->by_name[c] = &net->channels[c];
   }
-  return -1;
+  qsort(net->by_name, net->channel_count, sizeof *net->by_name, compare);
+}
+
+int kpn_find_channel(const struct kpn_network *net, const char *name, size_t length) {
+  const struct kpn_channel wanted = {.name = {name, length}}, *at = &wanted;
+  struct kpn_channel **found = bsearch(&at, net->by_name, net->channel_count, sizeof *net->by_name, compare);
+  return found ? (int)(*found - net->channels) : -1;
 }
 
 int kpn_find_instance(const struct kpn_network *net, const char *name, size_t length) {
@@ -71,7 +82,22 @@ int kpn_find_instance(const struct kpn_network *net, const char *name, size_t le
   return -1;
 }
 
-static void read_process(struct reader *in, struct kpn_process *into) {
+/* The list of this many elements, with room for one more: it grows where their number is a power of two. */
+static void *with_room(void *list, size_t count, size_t size) {
+  if (count & (count - 1)) {
+    return list;
+  }
+  void *made = kpn_memory(2 * (count + !count) * size);
+  if (count) {
+    memcpy(made, list, count * size);
+  }
+  free(list);
+  return made;
+}
+
+static void read_process(struct reader *in, struct kpn_network *net) {
+  net->processes = with_room(net->processes, net->process_count, sizeof *net->processes);
+  struct kpn_process *into = &net->processes[net->process_count++];
   const char *start = in->token.at;
   next(in);
   into->name = pass(in);
@@ -106,6 +132,7 @@ static void read_settings(struct reader *in, struct kpn_network *net) {
 }
 
 static void read_channel(struct reader *in, struct kpn_network *net) {
+  net->channels = with_room(net->channels, net->channel_count, sizeof *net->channels);
   struct kpn_channel *made = &net->channels[net->channel_count++];
   const struct kpn_span word = pass(in);
   *made = (struct kpn_channel){.kind = CHANNEL, .writer = OUTSIDE, .reader = OUTSIDE};
@@ -125,6 +152,7 @@ static void read_channel(struct reader *in, struct kpn_network *net) {
 
 /* Goes past an instance and keeps its text. Its channels are looked up once all are there. */
 static void read_instance(struct reader *in, struct kpn_network *net) {
+  net->instances = with_room(net->instances, net->instance_count, sizeof *net->instances);
   struct kpn_instance *made = &net->instances[net->instance_count++];
   const char *start = in->token.at;
   made->name = pass(in);
@@ -180,15 +208,23 @@ bool kpn_is_second(const char *text, size_t length) {
   return is(&in, "language");
 }
 
+void kpn_free_network(struct kpn_network *net) {
+  free(net->processes);
+  free(net->instances);
+  free(net->channels);
+  free(net->by_name);
+  *net = (struct kpn_network){0};
+}
+
 void kpn_read_network(struct kpn_network *net, const char *text, size_t length) {
   struct reader in = {.at = text, .end = text + length};
-  *net = (struct kpn_network){0};
+  kpn_free_network(net);
   next(&in);
   if (is(&in, "language")) {
     read_opening(&in, net);
   }
   while (is(&in, "process")) {
-    read_process(&in, &net->processes[net->process_count++]);
+    read_process(&in, net);
   }
   next(&in);
   next(&in);
@@ -200,6 +236,7 @@ void kpn_read_network(struct kpn_network *net, const char *text, size_t length) 
       read_instance(&in, net);
     }
   }
+  sort_channels(net);
   for (size_t p = 0; p < net->instance_count; p++) {
     join_ports(net, (int)p);
   }

@@ -4,9 +4,6 @@
 
 #include "common.h"
 
-/* The limits of descriptions, as docs/ERRORS.md has them under 10. */
-enum { MOST_PROCESSES = 256, MOST_INSTANCES = 256, MOST_CHANNELS = 1024, MOST_PORTS = 32 };
-
 /* In place of an instance: the outside, which writes a source or reads a sink. */
 enum { OUTSIDE = -1 };
 
@@ -38,9 +35,10 @@ struct kpn_instance {
 
 struct kpn_network {
   struct kpn_span opening; /* `language 2;` and the tables for all processes; empty in a text of language 1 */
-  struct kpn_process processes[MOST_PROCESSES];
-  struct kpn_instance instances[MOST_INSTANCES];
-  struct kpn_channel channels[MOST_CHANNELS];
+  struct kpn_process *processes;
+  struct kpn_instance *instances;
+  struct kpn_channel *channels;
+  struct kpn_channel **by_name; /* all channels, in order of their names */
   size_t process_count, instance_count, channel_count;
   size_t limit;
   bool grows_at_stops, doubles; /* `policy all`, `grow double` */
@@ -49,8 +47,10 @@ struct kpn_network {
 /* Whether a text that `kpn_check` takes is of language 2. */
 bool kpn_is_second(const char *text, size_t length);
 
-/* Reads a text that `kpn_check` takes; of language 2 the canonical one. The network points into it. */
+/* Reads a text that `kpn_check` takes, in place of what was read before; of language 2 the canonical one. The network
+   points into it. */
 void kpn_read_network(struct kpn_network *net, const char *text, size_t length);
+void kpn_free_network(struct kpn_network *net);
 
 /* The number of the channel, or of the instance, with this name; -1 if there is none. */
 int kpn_find_channel(const struct kpn_network *net, const char *name, size_t length);

@@ -36,7 +36,7 @@ static void print_line(const char *before, struct kpn_span line, struct kpn_text
 
 void kpn_print_part(const struct kpn_part *of, struct kpn_text *into) {
   const struct kpn_network *net = of->net;
-  bool is_used[MOST_PROCESSES] = {false};
+  bool *is_used = kpn_memory(net->process_count * sizeof *is_used);
   for (size_t p = 0; p < of->instance_count; p++) {
     is_used[net->instances[of->instances[p]].process] = true;
   }
@@ -48,6 +48,7 @@ void kpn_print_part(const struct kpn_part *of, struct kpn_text *into) {
       print_line("", net->processes[k].whole, into);
     }
   }
+  free(is_used);
   kpn_print_to(into, "network {\n  limit %zu;\n", net->limit);
   /* A part of several looks after its own cycles. What is owed at a stop is for the chief to say. */
   if (net->grows_at_stops && of->cut->ranks == 1) {
@@ -77,7 +78,14 @@ static void open_session(struct kpn_part *of) {
 
 void kpn_open_part(struct kpn_part *made, const struct kpn_network *net, const struct kpn_cut *of, int rank,
                    bool keeps) {
-  *made = (struct kpn_part){.net = net, .cut = of, .rank = rank, .keeps = keeps};
+  *made = (struct kpn_part){.net = net,
+                            .cut = of,
+                            .rank = rank,
+                            .keeps = keeps,
+                            .channels = kpn_memory(net->channel_count * sizeof *made->channels),
+                            .instances = kpn_memory(net->instance_count * sizeof *made->instances),
+                            .local = kpn_memory(net->channel_count * sizeof *made->local),
+                            .caps = kpn_memory(net->channel_count * sizeof *made->caps)};
   for (size_t c = 0; c < net->channel_count; c++) {
     const bool is_here = has_instance(made, net->channels[c].writer) || has_instance(made, net->channels[c].reader);
     made->local[c] = is_here ? (int)made->channel_count : NOWHERE;
@@ -96,6 +104,10 @@ void kpn_open_part(struct kpn_part *made, const struct kpn_network *net, const s
 
 void kpn_close_part(struct kpn_part *of) {
   kpn_expect(kpn_free(&of->session), "kpn_free");
+  free(of->channels);
+  free(of->instances);
+  free(of->local);
+  free(of->caps);
 }
 
 void kpn_print_trace(struct kpn_part *of, struct kpn_text *into) {
@@ -198,7 +210,7 @@ static const char *line_after(const char *line) {
 }
 
 static void replay(struct kpn_part *of, const char *trace) {
-  size_t moves[MOST_CHANNELS] = {0};
+  size_t *moves = kpn_memory(of->channel_count * sizeof *moves);
   bool is_behind = false;
   size_t count = 0;
   for (const char *line = trace; line; line = line_after(line)) {
@@ -216,6 +228,7 @@ static void replay(struct kpn_part *of, const char *trace) {
     }
   }
   catch_up(of, moves, &is_behind);
+  free(moves);
 }
 
 void kpn_grow_part(struct kpn_part *of, size_t channel, size_t cap) {
@@ -232,7 +245,7 @@ void kpn_grow_part(struct kpn_part *of, size_t channel, size_t cap) {
     }
   }
   of->caps[channel] = cap;
-  kpn_close_part(of);
+  kpn_expect(kpn_free(&of->session), "kpn_free");
   open_session(of);
   replay(of, trace.at);
   kpn_free_text(&trace);

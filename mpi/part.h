@@ -12,12 +12,12 @@ struct kpn_part {
   const struct kpn_network *net;
   const struct kpn_cut *cut;
   int rank;
-  bool keeps;                     /* whether it keeps its history, which a growth and a trace want */
-  size_t channels[MOST_CHANNELS]; /* its channels by their numbers in the whole */
-  size_t instances[MOST_INSTANCES];
+  bool keeps;       /* whether it keeps its history, which a growth and a trace want */
+  size_t *channels; /* its channels by their numbers in the whole */
+  size_t *instances;
   size_t channel_count, instance_count;
-  int local[MOST_CHANNELS];   /* the number in the part by the one in the whole, or NOWHERE */
-  size_t caps[MOST_CHANNELS]; /* the capacities at which the session was opened, by number in the whole */
+  int *local;   /* the number in the part by the one in the whole, or NOWHERE */
+  size_t *caps; /* the capacities at which the session was opened, by number in the whole */
   kpn_session session;
 };
 

@@ -31,9 +31,11 @@ static void add_ends(struct kpn_rank *made, size_t c) {
       made->sinks[made->sink_count++] = (struct kpn_own_sink){.channel = c, .local = local};
     }
   } else if (kpn_is_sink_of(&made->part, c)) {
+    made->place[c] = made->out_count;
     made->outs[made->out_count++] =
         (struct kpn_outgoing){.channel = c, .local = local, .to = rank_of[net->channels[c].reader]};
   } else {
+    made->place[c] = made->in_count;
     made->ins[made->in_count++] =
         (struct kpn_incoming){.channel = c, .local = local, .from = rank_of[net->channels[c].writer]};
   }
@@ -50,6 +52,7 @@ void kpn_open_rank(struct kpn_rank *made, const struct kpn_network *net, const s
                             .must_judge = true,
                             .refused.option = SIZE_MAX};
   kpn_open_part(&made->part, net, of, number, keeps);
+  made->place = kpn_memory(net->channel_count * sizeof *made->place);
   made->outs = kpn_memory(net->channel_count * sizeof *made->outs);
   made->ins = kpn_memory(net->channel_count * sizeof *made->ins);
   made->sinks = kpn_memory(net->channel_count * sizeof *made->sinks);
@@ -69,6 +72,7 @@ void kpn_free_rank(struct kpn_rank *of) {
   for (size_t k = 0; k < of->sink_count; k++) {
     kpn_free_words(&of->sinks[k].items);
   }
+  free(of->place);
   free(of->outs);
   free(of->ins);
   free(of->sinks);
@@ -94,23 +98,11 @@ void kpn_feed_source(struct kpn_rank *of, size_t channel, const int64_t *items, 
 /* ---- what comes from other ranks */
 
 static struct kpn_outgoing *out_of(struct kpn_rank *of, size_t channel) {
-  size_t k = 0;
-  while (of->outs[k].channel != channel) {
-    k++;
-  }
-  return &of->outs[k];
-}
-
-static struct kpn_incoming *in_of(struct kpn_rank *of, size_t channel) {
-  size_t k = 0;
-  while (of->ins[k].channel != channel) {
-    k++;
-  }
-  return &of->ins[k];
+  return &of->outs[of->place[channel]];
 }
 
 static void hear_items(struct kpn_rank *of, size_t channel, const int64_t *items, size_t count) {
-  struct kpn_incoming *in = in_of(of, channel);
+  struct kpn_incoming *in = &of->ins[of->place[channel]];
   size_t fed;
   kpn_expect(kpn_feed(&of->part.session, in->local, items, count, &fed), "kpn_feed");
   in->received += count;
@@ -418,10 +410,10 @@ static bool work(struct kpn_rank *of, bool heard) {
 
 /* Writes what the processes stand at, and returns whether one is ready. */
 static bool report_processes(struct kpn_rank *of, int64_t **at) {
-  kpn_process_state states[MOST_INSTANCES];
-  size_t count;
+  size_t count = of->part.instance_count;
+  kpn_process_state *states = kpn_memory(count * sizeof *states);
   bool is_ready = false;
-  kpn_expect(kpn_tell_processes(&of->part.session, states, MOST_INSTANCES, &count), "kpn_tell_processes");
+  kpn_expect(kpn_tell_processes(&of->part.session, states, count, &count), "kpn_tell_processes");
   for (size_t k = 0; k < count; k++, *at += 3) {
     const bool is_full = states[k].state == KPN_STATE_WAITS_FULL;
     const bool waits = is_full || states[k].state == KPN_STATE_WAITS_EMPTY;
@@ -430,6 +422,7 @@ static bool report_processes(struct kpn_rank *of, int64_t **at) {
     (*at)[1] = waits ? (int64_t)of->part.channels[states[k].channel] : 0;
     (*at)[2] = is_full ? (int64_t)told_of(of, states[k].channel).unread : 0;
   }
+  free(states);
   return is_ready;
 }
 
@@ -441,7 +434,7 @@ static void report_end(struct kpn_rank *of, size_t channel, int64_t **at) {
     *(*at)++ = (int64_t)out->credited;
     *(*at)++ = out->is_left;
   } else {
-    const struct kpn_incoming *in = in_of(of, channel);
+    const struct kpn_incoming *in = &of->ins[of->place[channel]];
     *(*at)++ = (int64_t)in->received;
     *(*at)++ = (int64_t)in->got;
     *(*at)++ = in->is_left;

@@ -56,6 +56,7 @@ struct kpn_rank {
   struct kpn_part part;
   enum kpn_phase phase;
   enum kpn_outcome outcome; /* once it ends */
+  size_t *place; /* of a cut channel, by its number in the whole: where it is among these */
   struct kpn_outgoing *outs;
   struct kpn_incoming *ins;
   struct kpn_own_sink *sinks;

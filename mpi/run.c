@@ -93,6 +93,8 @@ int kpn_load_plan(struct kpn_plan *into, const struct kpn_options *given) {
 void kpn_free_plan(struct kpn_plan *of) {
   kpn_free_text(&of->description);
   kpn_free_text(&of->cut_lines);
+  kpn_free_network(&of->net);
+  free(of->cut.rank_of);
   free(of);
 }
 
@@ -221,6 +223,8 @@ void kpn_open_site(struct kpn_site *made, const struct kpn_plan *of, int number,
   const bool keeps = of->options->traces || of->options->certifies || kpn_may_grow_over_ranks(&of->net, &of->cut);
   struct kpn_refused_option first = {SIZE_MAX, {0}};
   made->plan = of;
+  made->outputs = kpn_memory(of->net.channel_count * sizeof *made->outputs);
+  made->has_output = kpn_memory(of->net.channel_count * sizeof *made->has_output);
   kpn_open_rank(&made->rank, &of->net, &of->cut, number, &of->options->settings, over, keeps);
   if (of->options->traces) {
     name_traces(made);
@@ -236,11 +240,13 @@ void kpn_open_site(struct kpn_site *made, const struct kpn_plan *of, int number,
 }
 
 void kpn_close_site(struct kpn_site *of) {
-  for (size_t c = 0; c < MOST_CHANNELS; c++) {
+  for (size_t c = 0; c < of->plan->net.channel_count; c++) {
     if (of->has_output[c]) {
       kpn_file_drop(&of->outputs[c]);
     }
   }
+  free(of->outputs);
+  free(of->has_output);
   for (int k = 0; k < MOST_KEPT; k++) {
     kpn_file_drop(&of->kept[k]);
     kpn_free_text(&of->kept_names[k]);

@@ -35,8 +35,8 @@ enum { KEPT_TRACE, KEPT_PART, KEPT_CUT, KEPT_RANKS, MOST_KEPT };
 struct kpn_site {
   const struct kpn_plan *plan;
   struct kpn_rank rank;
-  struct kpn_file outputs[MOST_CHANNELS]; /* by channel */
-  bool has_output[MOST_CHANNELS];
+  struct kpn_file *outputs; /* by channel */
+  bool *has_output;
   struct kpn_file kept[MOST_KEPT]; /* in the folder of --traces */
   struct kpn_text kept_names[MOST_KEPT];
   int kept_count;

@@ -208,8 +208,9 @@ class Plain:
 
     def capped(self) -> bool:
         """`cap N;` among the settings of the network, for channels that have none."""
-        settings = [it.text for it in self.found[self.head::SETTING]]
-        if self.text(0) != 'cap' or not self.head or self.cap or any(it not in SETTINGS for it in settings):
+        if self.text(0) != 'cap' or not self.head or self.cap:
+            return False
+        if any(it.text not in SETTINGS for it in self.found[self.head::SETTING]):
             return False
         is_number = number_of(self.text(1), 2) is not None
         if not is_number or self.text(2) != ';':

@@ -4,8 +4,8 @@ from __future__ import annotations
 import collections
 import contextlib
 import copy
-from typing import Any, Dict, Iterable, Iterator, List, Mapping, NamedTuple, Optional, Sequence, SupportsIndex, Tuple
-from typing import Union
+from typing import AbstractSet, Any, Dict, Iterable, Iterator, List, Mapping, NamedTuple, Optional, Sequence, Set
+from typing import SupportsIndex, Tuple, Union
 
 from . import compiled, running
 from .errors import LARGEST, KpnError, Spot, whole
@@ -22,7 +22,8 @@ ADVICE = {
     'NoWriter': 'Nothing flows into this stream: `connect` it to what shall flow there, or make it by `net.source`.',
     'NoReader': 'Nobody reads this stream: give it to a process, or to `net.sink`.',
 }
-LIMITS = (('processes', 256), ('instances', 256), ('channels', 1024))
+# The most processes, instances and channels of a network, by its language.
+LIMITS = {1: (256, 256, 1_024), 2: (256, 4_096, 16_384)}
 COPY = Process('copy', ('i',), ('o',), (), ('  while 1 {', '    read i x;', '    write o x;', '  }'))
 
 
@@ -80,25 +81,29 @@ class Network:
 
     `limit`, 1 to 1,048,576, is the largest capacity that a channel may grow to, `policy` is `cycles` or `all`, and
     `grow` is `one` or `double`: Combrieks' docs/RUNS.md tells which to choose. `cap` is the capacity of channels and
-    sinks for which none is given. A stream that is used again is an error; with `auto_fork` it is forked. A copy or a
-    pickle is a network of its own, with streams of its own.
+    sinks for which none is given. A stream that is used again is an error; with `auto_fork` it is forked. `language` is
+    1 or 2, in which a network may be larger; one with a process of language 2 is of that language by itself. A copy or
+    a pickle is a network of its own, with streams of its own.
 
     Other settings raise KpnError, and a limit that is no whole number TypeError. So do names, capacities and streams in
     the calls below that build.
     """
 
     def __init__(self, limit: int = LARGEST_CAPACITY, policy: str = 'cycles', grow: str = 'one', *,
-                 auto_fork: bool = False, cap: int = 1):
+                 auto_fork: bool = False, cap: int = 1, language: int = 1):
         for what, given, choices in (('policy', policy, ('cycles', 'all')), ('grow', grow, ('one', 'double'))):
             if given not in choices:
                 raise KpnError(f'{what} is {given!r}: it has to be {choices[0]!r} or {choices[1]!r}')
         self.limit = whole('the limit', limit, 1, LARGEST_CAPACITY)
         self.policy, self.grow, self.auto_fork, self.cap = policy, grow, auto_fork, self._capacity(cap) or 1
-        self._language = 1
+        self._language = whole('the language', language, 1, 2)
         self._tables: Tuple[Table, ...] = ()
         self._processes: List[Process] = []
-        self._channels: List[Stream] = []
+        # The channels in order of number, and the instances, with the names that were given to each.
+        self._channels: Dict[Stream, None] = {}
         self._instances: List[Instance] = []
+        self._channel_names: Set[str] = set()
+        self._instance_names: Set[str] = set()
         self._scope = ''
         self._layout: Optional[Layout] = None
         self._names: Dict[Union[Instance, Stream], str] = {}
@@ -154,11 +159,12 @@ class Network:
     def __setstate__(self, state: Dict[str, Any]) -> None:
         vars(self).update(state)
         self._processes = list(self._processes)
-        self._channels = [Stream(self, *it) for it in state['_channels']]
-        self._instances = []
+        channels = [Stream(self, *it) for it in state['_channels']]
+        self._channels, self._instances = dict.fromkeys(channels), []
+        self._channel_names, self._instance_names = set(self._channel_names), set(self._instance_names)
         for *given, ins, outs in state['_instances']:
             instance = Instance(*given)
-            instance.ins, instance.outs = [self._channels[it] for it in ins], [self._channels[it] for it in outs]
+            instance.ins, instance.outs = [channels[it] for it in ins], [channels[it] for it in outs]
             for stream in instance.ins:
                 stream.reader = instance
             for stream in instance.outs:
@@ -167,11 +173,11 @@ class Network:
 
     def place_of(self, channel: Stream) -> int:
         """The number of a channel."""
-        return self._channels.index(channel)
+        return list(self._channels).index(channel)
 
     def stream_at(self, place: int) -> Stream:
         """The stream of the channel with this number."""
-        return self._channels[place]
+        return list(self._channels)[place]
 
     # ---- building
 
@@ -201,11 +207,12 @@ class Network:
         streams, values = process.bind(args, named)
         caps = {port: self._capacity(given) for port, given in capacities_of(process, cap).items()}
         self._check_unread(streams, process.name)
-        instance = Instance(process, self._own(name, self._instances), self._scope, values)
+        instance = Instance(process, self._own(name, self._instance_names), self._scope, values)
         for stream in streams:
             instance.ins.append(self._unread(stream.channel))
             instance.ins[-1].reader = instance
         self._instances.append(instance)
+        self._instance_names.update([name] if name else [])
         for port in process.outs:
             self._write(instance, caps.get(port))
         outs = tuple(instance.outs)
@@ -214,7 +221,7 @@ class Network:
     @contextlib.contextmanager
     def scope(self, name: str) -> Iterator[None]:
         """Within `with net.scope("left"):` the names of new instances begin with `left_`."""
-        before, self._scope = self._scope, f'{self._scope}{self._own(name, [])}_'
+        before, self._scope = self._scope, f'{self._scope}{self._own(name, set())}_'
         try:
             yield
         finally:
@@ -229,25 +236,28 @@ class Network:
         if stream.kind == 'source':
             stream = COPY(stream)
         self._move_writer(stream, channel)
+        if channel.given_name and stream.given_name:
+            self._channel_names.remove(stream.given_name)
         channel.given_name = channel.given_name or stream.given_name
         channel.given_cap = channel.given_cap or stream.given_cap
         stream.joined = channel
-        self._channels.remove(stream)
+        del self._channels[stream]
         self._layout = None
 
-    def _own(self, name: Optional[str], others: Sequence[Union[Instance, Stream]]) -> Optional[str]:
+    def _own(self, name: Optional[str], taken: AbstractSet[str]) -> Optional[str]:
         """The name that was given for a new thing, if it may have it."""
         if name is not None and not is_name(name):
             raise KpnError(f'{name!r} is no name: a name has at most {LONGEST_NAME} letters, digits and `_`, begins '
                            'with no digit, and is no word of the language')
-        if name is not None and any(it.given_name == name for it in others):
+        if name in taken:
             raise KpnError(f'there is another `{name}` already')
         self._layout = None
         return name
 
     def _declare(self, kind: str, name: Optional[str], cap: Optional[int]) -> Stream:
-        stream = Stream(self, kind, self._own(name, self._channels), self._capacity(cap))
-        self._channels.append(stream)
+        stream = Stream(self, kind, self._own(name, self._channel_names), self._capacity(cap))
+        self._channels[stream] = None
+        self._channel_names.update([name] if name else [])
         return stream
 
     def _capacity(self, cap: Optional[int]) -> Optional[int]:
@@ -328,7 +338,7 @@ class Network:
 
     @property
     def language(self) -> int:
-        """The language of its text: 2 if it or one of its processes was read from such a text, and else 1."""
+        """The language of its text: 2 if it was made so, or one of its processes was read from such a text; else 1."""
         return max([self._language, *(it.language for it in self._processes),
                     *(it.process.language for it in self._instances)])
 
@@ -393,12 +403,14 @@ class Network:
     def check_limits(self) -> None:
         """Raises KpnError if the network has more of something than the language allows."""
         counts = (len(self.layout().begins), len(self._instances), len(self._channels))
-        for (what, most), count in zip(LIMITS, counts):
+        limits, others = LIMITS[self.language], LIMITS[2]
+        for what, most, larger, count in zip(('processes', 'instances', 'channels'), limits, others, counts):
             if count > most:
                 common = collections.Counter(it.process.name for it in self._instances).most_common(3)
                 of_these = ', '.join(f'{number} of `{name}`' for name, number in common)
+                advice = f'. `kpn.Network(language=2)` may have {larger}' if larger > most else ''
                 raise KpnError(f'the network has {count} {what}: {count - most} more than the {most} that it may have. '
-                               f'Most of its instances are {of_these}', error='10 TooMany')
+                               f'Most of its instances are {of_these}{advice}', error='10 TooMany')
 
     def check(self, program: Program = None) -> None:
         """Raises KpnError with the words of `kpn explain` if the network is not right."""

@@ -9,7 +9,8 @@ So it is the order of a legal history.
 from __future__ import annotations
 
 import collections
-from typing import Dict, Iterator, List, NamedTuple, Optional, Sequence, Set, Tuple
+import math
+from typing import Dict, Iterator, List, Mapping, NamedTuple, Optional, Sequence, Set, Tuple
 
 from ..balance import Link, Unbalanced, rounds_of
 from ..language import INDEX, Assign, Description, Read, Write
@@ -39,6 +40,25 @@ class Region(NamedTuple):
     gets: Dict[str, int]
     puts: Dict[str, int]
     order: List[Tuple[int, int, int]]
+
+
+class Part(NamedTuple):
+    """Processes that channels connect: one, or two parts, apart at a channel that is at least as wide as those within.
+    It has the least process, and how many rows and how many times its period the laps of the whole network make."""
+
+    first: int
+    rows: int
+    periods: int
+    halves: Tuple[Part, ...] = ()
+
+    def members(self) -> Set[int]:
+        """Its processes."""
+        found, left = set(), [self]
+        while left:
+            part = left.pop()
+            left += part.halves
+            found.add(part.first)
+        return found
 
 
 def loop_of(rows: Rows) -> Optional[Loop]:
@@ -76,6 +96,13 @@ def end_of(rows: Rows, place: int) -> int:
     return row.otherwise if row.is_loop else before.to
 
 
+def head_of(heads: Dict[int, int], p: int) -> int:
+    """The least process that a process was joined with; the ways there become shorter."""
+    while heads[p] != p:
+        heads[p] = p = heads[heads[p]]
+    return p
+
+
 class Finder:
     """Finds the regions of a network."""
 
@@ -99,54 +126,58 @@ class Finder:
 
     def regions(self) -> Iterator[Region]:
         """All regions of two members and more."""
-        left = [members for members in self.components(set(self.loops), self.links) if len(members) > 1]
-        while left:
-            members = left.pop()
-            inside = {c for c in self.links if self.writers[c][0] in members and self.readers[c][0] in members}
-            laps = self.balance(members, inside)
-            if laps is None:
-                continue
-            if sum(laps[p] * (self.loops[p].end - self.loops[p].head) for p in members) > MOST_ROWS:
-                left += [part for part in self.cut(members, inside) if len(part) > 1]
-                continue
-            region = self.period(laps, inside)
-            if region:
-                yield region
+        for members in reversed(self.components(set(self.loops), self.links)):
+            laps = self.balance(members, self.inside(members)) if len(members) > 1 else None
+            left = [self.whole(laps)] if laps else []
+            while left:
+                part = left.pop()
+                if part.rows // part.periods > MOST_ROWS:
+                    left += [it for it in part.halves if it.halves]
+                    continue
+                found = part.members()
+                region = self.period({p: laps[p] // part.periods for p in sorted(found)}, self.inside(found))
+                if region:
+                    yield region
+
+    def inside(self, members: Set[int]) -> Set[str]:
+        """The channels from one of these processes to another, both of which may belong to a region."""
+        return {c for p in members for c in self.entries[p].outs if c in self.links and self.readers[c][0] in members}
+
+    def whole(self, laps: Mapping[int, int]) -> Part:
+        """All these processes as a part."""
+        parts = {p: Part(p, count * (self.loops[p].end - self.loops[p].head), count) for p, count in laps.items()}
+        heads = {p: p for p in laps}
+        for c in sorted(self.inside(set(laps)), key=lambda c: (self.capacities[c], c)):
+            first, second = sorted(head_of(heads, ends[c][0]) for ends in (self.writers, self.readers))
+            if first != second:
+                heads[second] = first
+                one, other = parts[first], parts.pop(second)
+                parts[first] = Part(first, one.rows + other.rows, math.gcd(one.periods, other.periods), (one, other))
+        return parts[min(laps)]
 
     def periods(self) -> Dict[str, int]:
         """How many items each channel carries in a period of all that is connected with it, where that is known."""
         found: Dict[str, int] = {}
         links = {c for c in self.capacities if c in self.writers and c in self.readers}
         for members in self.components(set(range(len(self.entries))), links):
-            inside = {c for c in links if self.writers[c][0] in members}
+            inside = {c for p in members for c in self.entries[p].outs if c in links}
             laps = self.balance(members, inside) if members <= set(self.rates) else None
-            for ends in (self.writers, self.readers) if laps else ():
-                found.update({c: laps[p] * self.rates[p].get(port, 0) for c, (p, port) in ends.items() if p in laps})
+            for p, count in (laps or {}).items():
+                entry, process = self.entries[p], self.rows[self.entries[p].process].process
+                ports = zip((*entry.ins, *entry.outs), (*process.ins, *process.outs))
+                found.update({c: count * self.rates[p].get(port, 0) for c, port in ports})
         return found
 
     def components(self, members: Set[int], links: Set[str]) -> List[Set[int]]:
         """The sets of processes that these channels connect."""
-        found: List[Set[int]] = []
-        left = set(members)
-        while left:
-            part, border = set(), [min(left)]
-            while border:
-                p = border.pop()
-                if p not in part:
-                    part.add(p)
-                    border += [self.readers[c][0] for c in links if self.writers[c][0] == p]
-                    border += [self.writers[c][0] for c in links if self.readers[c][0] == p]
-            found.append(part)
-            left -= part
-        return found
-
-    def cut(self, members: Set[int], inside: Set[str]) -> List[Set[int]]:
-        """Parts of a set of processes, apart at its widest channels."""
-        links, parts = set(inside), [members]
-        while len(parts) == 1:
-            links.remove(max(links, key=lambda c: (self.capacities[c], c)))
-            parts = self.components(members, links)
-        return parts
+        heads = {p: p for p in sorted(members)}
+        for c in links:
+            first, second = sorted(head_of(heads, ends[c][0]) for ends in (self.writers, self.readers))
+            heads[second] = first
+        found: Dict[int, Set[int]] = {}
+        for p in heads:
+            found.setdefault(head_of(heads, p), set()).add(p)
+        return list(found.values())
 
     def balance(self, members: Set[int], inside: Set[str]) -> Optional[Dict[int, int]]:
         """The least numbers of laps after which each channel has as many items as before, if there are any."""

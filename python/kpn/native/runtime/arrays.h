@@ -50,7 +50,7 @@ uint32_t kpn_live_go(struct kpn_live *live, uint64_t commits);
 
 /* How many items have come to a sink and were not read; whether no more come; reads this many of them. */
 size_t kpn_live_came(const struct kpn_live *live, size_t sink);
-uint32_t kpn_live_is_complete(const struct kpn_live *live, size_t channel);
+uint32_t kpn_live_is_complete(struct kpn_live *live, size_t channel);
 void kpn_live_read(struct kpn_live *live, size_t sink, int64_t *items, size_t count);
 
 /* Writes who has faulted or waits, and the outcome; gives the length. */

@@ -75,9 +75,9 @@ size_t kpn_live_came(const struct kpn_live *live, size_t sink) {
   return live->run.sinks[sink].list.count - live->read[sink];
 }
 
-uint32_t kpn_live_is_complete(const struct kpn_live *live, size_t channel) {
-  struct kpn_channels complete = kpn_complete(&live->run.network);
-  return kpn_has_channel(&complete, channel);
+uint32_t kpn_live_is_complete(struct kpn_live *live, size_t channel) {
+  kpn_find_complete(&live->run.network);
+  return live->run.network.channels[channel].is_complete;
 }
 
 void kpn_live_read(struct kpn_live *live, size_t sink, int64_t *items, size_t count) {

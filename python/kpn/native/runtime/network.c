@@ -386,36 +386,29 @@ unsigned kpn_verdict_of(const struct kpn_network *network) {
   return found;
 }
 
-bool kpn_has_channel(const struct kpn_channels *channels, size_t channel) {
-  return channels->words[channel / 32] >> (channel % 32) & 1;
-}
-
-static bool is_finished(const struct kpn_process *process, const struct kpn_channels *complete) {
+static bool is_finished(const struct kpn_network *network, const struct kpn_process *process) {
   bool is_still = process->being == KPN_STALLED || process->being == KPN_WAITING;
   return process->being == KPN_OVER ||
-         (is_still && process->why == KPN_EMPTY && kpn_has_channel(complete, process->channel));
+         (is_still && process->why == KPN_EMPTY && network->channels[process->channel].is_complete);
 }
 
 /* A channel gets no more if it is a source that is closed, or its writer is finished. A process is finished if it has
    ended, or waits for an item of a channel that gets no more. Those that are not finished are found one by one. */
-struct kpn_channels kpn_complete(const struct kpn_network *network) {
+void kpn_find_complete(struct kpn_network *network) {
   const struct kpn_plan *plan = network->plan;
-  struct kpn_channels complete = {{0}};
   bool has_changed = true;
   for (size_t c = 0; c < plan->channel_count; c++) {
-    bool may_be = plan->channels[c].kind != KPN_SOURCE || network->channels[c].is_shut;
-    complete.words[c / 32] |= (uint32_t)may_be << (c % 32);
+    network->channels[c].is_complete = plan->channels[c].kind != KPN_SOURCE || network->channels[c].is_shut;
   }
   while (has_changed) {
     has_changed = false;
     for (size_t c = 0; c < plan->channel_count; c++) {
-      unsigned writer = network->channels[c].writer;
-      if (writer != KPN_OUTSIDE && kpn_has_channel(&complete, c) &&
-          !is_finished(&network->processes[writer], &complete)) {
-        complete.words[c / 32] &= ~((uint32_t)1 << (c % 32));
+      struct kpn_channel *channel = &network->channels[c];
+      if (channel->writer != KPN_OUTSIDE && channel->is_complete &&
+          !is_finished(network, &network->processes[channel->writer])) {
+        channel->is_complete = false;
         has_changed = true;
       }
     }
   }
-  return complete;
 }

@@ -45,7 +45,7 @@
 #endif
 
 enum {
-  KPN_MOST_CHANNELS = 1024,
+  KPN_MOST_CHANNELS = 16384, /* of a description of language 2 */
   KPN_OUTSIDE = 0xffff,   /* in place of a process: the writer of a source, the reader of a sink */
   KPN_FUEL = 16384,       /* the most turns of loops in a turn of a process */
   KPN_MOST_ITEMS = 4096,  /* the most items that a turn of a process gets from a channel, or puts there */
@@ -81,6 +81,7 @@ struct kpn_channel {
   uint16_t writer, reader;
   bool reader_waits, writer_waits; /* whether somebody has to know of the next put, of the next get */
   bool is_shut;            /* a source that is closed, a sink that was left, a channel whose reader has ended */
+  bool is_complete;        /* as kpn_find_complete has found it */
 };
 
 struct kpn_process {
@@ -454,12 +455,7 @@ void kpn_leave(struct kpn_network *network, unsigned sink);
 /* How the run has come to a stop; KPN_GOING while a process is ready. */
 unsigned kpn_verdict_of(const struct kpn_network *network);
 
-/* The channels to which nothing more is ever put, whatever the capacities, as a set of their numbers. */
-struct kpn_channels {
-  uint32_t words[KPN_MOST_CHANNELS / 32];
-};
-
-struct kpn_channels kpn_complete(const struct kpn_network *network);
-bool kpn_has_channel(const struct kpn_channels *channels, size_t channel);
+/* Finds the channels to which nothing more is ever put, whatever the capacities. */
+void kpn_find_complete(struct kpn_network *network);
 
 #endif

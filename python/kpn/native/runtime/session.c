@@ -213,8 +213,8 @@ uint32_t kpn_is_complete(kpn_session *session, size_t channel, bool *complete) {
   if (!session->at) return KPN_NO_SESSION;
   if (channel >= kpn_network_of(session)->plan->channel_count) return KPN_NO_CHANNEL;
   kpn_lock_end(kpn_network_of(session));
-  struct kpn_channels all = kpn_complete(kpn_network_of(session));
-  *complete = kpn_has_channel(&all, channel);
+  kpn_find_complete(kpn_network_of(session));
+  *complete = kpn_network_of(session)->channels[channel].is_complete;
   return KPN_OK;
 }
 

@@ -298,12 +298,12 @@ static bool write_told(void *to, const char *text, size_t length) {
 /* Says how the stream has ended. */
 static void report(const struct stream *stream, kpn_writer *writer, void *to) {
   const struct kpn_plan *plan = plan_of(stream);
-  struct kpn_channels all = kpn_complete(&stream->run->network);
+  kpn_find_complete(&stream->run->network);
   char line[512];
   for (unsigned c = 0; c < plan->channel_count; c++) {
     const struct kpn_output *output = stream->outputs[c];
     if (output) {
-      bool is_complete = kpn_has_channel(&all, c) && !output->has_failed;
+      bool is_complete = stream->run->network.channels[c].is_complete && !output->has_failed;
       int length = snprintf(line, sizeof line, "sink %s: %llu items, %scomplete\n", plan->channels[c].name,
                             (unsigned long long)output->taken, is_complete ? "" : "not ");
       writer(to, line, (size_t)length);
@@ -317,13 +317,13 @@ static int conclude(struct stream *stream) {
   static const int statuses[] = {[KPN_CLOGGED] = 3, [KPN_JAMMED] = 4, [KPN_STOPPED] = 5};
   struct kpn_run *run = stream->run;
   const struct kpn_plan *plan = plan_of(stream);
-  struct kpn_channels all = kpn_complete(&run->network);
+  kpn_find_complete(&run->network);
   bool are_all = true, has_sink = false;
   for (unsigned c = 0; c < plan->channel_count; c++) {
     const struct kpn_output *output = stream->outputs[c];
     if (output) {
       has_sink = true;
-      are_all = are_all && (kpn_has_channel(&all, c) || output->has_gone ||
+      are_all = are_all && (run->network.channels[c].is_complete || output->has_gone ||
                             (run->words.has_take && output->count >= run->words.take));
     }
   }
