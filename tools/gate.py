@@ -1,30 +1,33 @@
 #!/usr/bin/env python3
-"""Measures what each crate costs the gate, in processor minutes, and writes a table as that of docs/PROVING.md.
+"""Runs the gate and measures what each crate costs it, in processor minutes, and writes a table as that of
+docs/PROVING.md.
 
-usage: tools/gate.py [--no-edits] [--jobs N] [CRATE ..]
+usage: tools/gate.py [--log FILE] [--beside PID]
 
-It makes a clean clone of what is committed. There it proves each crate, tries its must-fail edits, tests it and runs
-it, with the command lines of the prover that `rt ci` uses. It does so for N crates at a time (one a processor, if N is
-not given), with one job each. It counts the processor time of the children. With names of crates, only these are in the
-table; the crates below them are proved too. Since machines differ, the last line says how this one compares with the
-table's.
+It makes a clean clone of what is committed, calls `rt ci` there, and adds up the processor time of its processes: the
+proof of each crate, its must-fail edits, and its tests. A program's runs belong to its proof. What `rt ci` says goes to
+FILE, or else to standard error. The last lines say how long it took by the clock, and how this machine compares with
+the table's. With --beside it watches the `rt ci` that runs as process PID.
 """
 import argparse
 import os
 import pathlib
+import re
 import shutil
 import subprocess
 import sys
 import tempfile
-from concurrent.futures import ThreadPoolExecutor
+import time
+from collections import defaultdict
 
 import prover
 
 TOP = pathlib.Path(__file__).resolve().parent.parent
 # The minutes that the proofs of these crates took together on the machine of the table in docs/PROVING.md.
 MEASURE, ON_THE_TABLES_MACHINE = ('kpn_net', 'kpn_text_grammar', 'kpn_text_names'), 8.0
-BACKENDS = ('llvm', 'rattle')
-SECONDS_FOR_A_TEST = '60'
+TICK = os.sysconf('SC_CLK_TCK')
+SECONDS_BETWEEN_LOOKS = 0.2
+RAN = re.compile(r'/rt-run-[^/]*/bin/(\w+?)(_tests)?$')
 
 
 class Spent:
@@ -35,128 +38,78 @@ class Spent:
         self.number_of_edits = self.number_of_tests = 0
 
 
-class Gate:
-    def __init__(self, room, kit):
-        self.room, self.kit = room, kit
-        self.is_well = True
+def process_at(pid):
+    """The parent, the words, the folder and the seconds of a process and its ended children; None if it is gone."""
+    try:
+        folder = pathlib.Path('/proc', str(pid))
+        words = (folder / 'cmdline').read_bytes().decode(errors='replace').split('\0')[:-1]
+        fields = (folder / 'stat').read_text().rpartition(')')[2].split()
+        return int(fields[1]), words, os.readlink(folder / 'cwd'), sum(map(int, fields[11:15])) / TICK
+    except (OSError, IndexError):
+        return None
 
-    def run(self, words, folder, expected=0, **how):
-        """Runs a command, and returns its output and the processor time of all that it started."""
-        with tempfile.TemporaryFile('w+', errors='replace') as said:
-            how = {'stdin': subprocess.DEVNULL, 'stdout': said, 'stderr': subprocess.STDOUT, **how}
-            started = subprocess.Popen(list(map(str, words)), cwd=folder, **how)
-            _, status, usage = os.wait4(started.pid, 0)
-            started.returncode = os.waitstatus_to_exitcode(status)
-            said.seek(0)
-            text = said.read()
-        if started.returncode != expected:
-            self.is_well = False
-            tell(f'{folder}: {words[1]} ended with {started.returncode}, and not {expected}:\n{text[-2000:]}')
-        return text, usage.ru_utime + usage.ru_stime
 
-    def words(self, verb, crate, *more):
-        more = ['--logic-built', self.kit / 'logic_built', '--jobs', '1', *more]
-        return prover.words_of(verb, crate, self.kit, self.room / 'libraries', *more)
+def part_of(words, folder):
+    """The crate for which a process works, and the part of its cost; None for others."""
+    if len(words) > 3 and words[0].endswith('/rattle') and '--crate-name' in words:
+        crate = words[words.index('--crate-name') + 1]
+        if '--test' in words:
+            return crate, 'tests'
+        return crate, 'proof' if folder.endswith(f'/crates/{crate}') else 'edits'
+    for word in words:
+        ran = RAN.search(word)
+        if ran:
+            return ran[1], 'tests' if ran[2] else 'proof'
+    return None
 
-    def prove(self, crate, spent):
-        if not crate.is_program:
-            library = self.room / 'libraries' / f'{crate.name}.rlib'
-            spent.proof = self.run(self.words('build', crate, '--empty-contracts', '--statements', '-o', library),
-                                   crate.folder)[1]
-            return
-        checked, program = self.room / 'checked' / crate.name, self.room / 'programs' / crate.name
-        spent.proof = self.run(self.words('check', crate, '--empty-contracts', '-o', checked), crate.folder)[1]
-        for backend in BACKENDS:
-            made = f'{program}.by-{backend}'
-            words = self.words('build', crate, '--crate-checked', checked)
-            for flag in ('--logic-built', '--jobs'):
-                at = words.index(flag)
-                del words[at:at + 2]
-            spent.proof += self.compile(crate, words, backend, made) + self.run_program(crate, made)
 
-    def compile(self, crate, words, backend, made):
-        words = [*words, '--toolchain', self.kit / 'toolchain', '--backend', backend, '-o', f'{made}.o']
-        spent = self.run(words, crate.folder)[1]
-        return spent + self.run(prover.link_words(self.kit, f'{made}.o', made), crate.folder)[1]
+class Watch:
+    """Adds up what the processes below one have taken."""
 
-    def run_program(self, crate, made):
-        """Runs a program as the gate does: on a copy of its data, with its input and its words."""
-        data, given = tempfile.mkdtemp(dir=self.room), crate.folder / 'stdin'
-        if (crate.folder / 'data').is_dir():
-            shutil.copytree(crate.folder / 'data', data, dirs_exist_ok=True)
-        words, status = crate.folder / 'args', crate.folder / 'status'
-        words = words.read_text().splitlines() if words.exists() else []
-        status = int(status.read_text()) if status.exists() else 0
-        with open(given if given.exists() else os.devnull) as stdin:
-            return self.run([made, *words], data, status, stdin=stdin)[1]
+    def __init__(self, root):
+        self.root = root
+        # By process and its words: the crate, the part, and the seconds when it was seen last.
+        self.seen = {}
 
-    def test(self, crate, spent):
-        spent.number_of_tests = sum(file.read_text().count('#[test]') for file in (crate.folder / 'src').rglob('*.rt'))
-        if not spent.number_of_tests:
-            return
-        made = self.room / 'programs' / f'{crate.name}_tests'
-        words = self.words('build', crate, '--empty-contracts', '--test')
-        spent.tests = self.compile(crate, words, 'llvm', made)
-        spent.tests += self.run([self.kit / 'bin/rattle-test', '--seconds', SECONDS_FOR_A_TEST, made], crate.folder)[1]
+    def look(self):
+        found = {pid: it for pid in map(int, filter(str.isdigit, os.listdir('/proc'))) if (it := process_at(pid))}
+        parts = {pid: part_of(words, folder) for pid, (_, words, folder, _) in found.items()}
+        for pid, part in parts.items():
+            parents = list(self.parents(pid, found))
+            # The children of one that counts are counted with it.
+            if part and self.root in parents and not any(parts.get(it) for it in parents):
+                self.seen[pid, part] = found[pid][3]
 
-    def try_edits(self, crate, spent):
-        """Tries the edits in turn, several of them over what was kept of those before, and then the crate as it is."""
-        edits = sorted((crate.folder / 'must-fail').glob('*.edit'))
-        spent.number_of_edits = len(edits)
-        kept = ['--incremental', tempfile.mkdtemp(dir=self.room)] if len(edits) > 1 else []
-        for edit in edits:
-            spent.edits += self.check_edited(crate, edit.read_text(), kept, 1)
-        if kept:
-            spent.edits += self.check_edited(crate, '', kept, 0)
+    def parents(self, pid, found):
+        while pid in found and pid != self.root:
+            pid = found[pid][0]
+            yield pid
 
-    def check_edited(self, crate, edit, kept, expected):
-        folder = pathlib.Path(tempfile.mkdtemp(dir=self.room))
-        for part in prover.PARTS:
-            if (crate.folder / part).is_dir():
-                shutil.copytree(crate.folder / part, folder / part)
-        for line in edit.split('\n'):
-            word, _, text = line.partition(': ')
-            if word == 'file':
-                file = folder / text.strip()
-            elif word == 'old':
-                old = text
-            elif line.startswith('new:'):
-                file.write_text(file.read_text().replace(old, text))
-        spent = self.run(self.words('check', crate, *kept), folder, expected)[1]
-        shutil.rmtree(folder)
+    def spent(self):
+        spent = defaultdict(Spent)
+        for (_, (crate, part)), seconds in self.seen.items():
+            setattr(spent[crate], part, getattr(spent[crate], part) + seconds)
         return spent
 
 
-def tell(text):
-    print(text, file=sys.stderr, flush=True)
+def run_and_watch(folder, log):
+    """Calls `rt ci` in a folder. Returns what the crates spent, the seconds by the clock, and the status."""
+    begun = time.monotonic()
+    started = subprocess.Popen(['rt', 'ci'], cwd=folder, stdin=subprocess.DEVNULL, stdout=log, stderr=log)
+    watch = Watch(started.pid)
+    while started.poll() is None:
+        watch.look()
+        time.sleep(SECONDS_BETWEEN_LOOKS)
+    return watch.spent(), time.monotonic() - begun, started.returncode
 
 
-def measure(gate, crates, shown, jobs, with_edits):
-    """Returns what each crate spent. A crate is proved once those below it are, and tried and tested after that."""
-    spent = {crate: Spent() for crate in crates}
-    with ThreadPoolExecutor(jobs) as pool:
-        proofs, rest = {}, []
-
-        def prove(crate):
-            for below in crate.below:
-                proofs[below].result()
-            gate.prove(crate, spent[crate])
-            tell(f'{crate.name}: proved, {spent[crate].proof:.0f} s')
-
-        def later(task, crate):
-            for it in [*crate.below, crate]:
-                proofs[it].result()
-            task(crate, spent[crate])
-
-        # Those below come first, so that none waits for one that has no place.
-        for crate in crates:
-            proofs[crate] = pool.submit(prove, crate)
-        for crate in [it for it in crates if it.name in shown]:
-            for task in [gate.test, gate.try_edits][: 1 + with_edits]:
-                rest.append(pool.submit(later, task, crate))
-        for it in [*proofs.values(), *rest]:
-            it.result()
-    return spent
+def watch_alone(pid):
+    """The same of one that runs already; its status is not known."""
+    begun, watch = time.monotonic(), Watch(pid)
+    while process_at(pid):
+        watch.look()
+        time.sleep(SECONDS_BETWEEN_LOOKS)
+    return watch.spent(), time.monotonic() - begun, 0
 
 
 def minutes(seconds):
@@ -166,7 +119,9 @@ def minutes(seconds):
 def table(spent, crates):
     total = Spent()
     for crate in crates:
-        it = spent[crate]
+        it = spent[crate.name]
+        it.number_of_edits = len(list((crate.folder / 'must-fail').glob('*.edit')))
+        it.number_of_tests = sum(file.read_text().count('#[test]') for file in (crate.folder / 'src').rglob('*.rt'))
         yield row(crate.name, it)
         for name in vars(total):
             setattr(total, name, getattr(total, name) + getattr(it, name))
@@ -180,35 +135,31 @@ def row(name, it):
 
 
 def compared(spent):
-    found = {crate.name: it.proof / 60 for crate, it in spent.items()}
-    if not all(it in found for it in MEASURE):
+    took = sum(spent[it].proof / 60 for it in MEASURE)
+    if not took:
         return 'The machine is not compared: that takes the proofs of ' + ', '.join(MEASURE) + '.'
-    took = sum(found[it] for it in MEASURE)
     return (f'{", ".join(MEASURE)}: {took:.1f} minutes here, {ON_THE_TABLES_MACHINE} on the machine of the table, so '
             f'minutes here times {ON_THE_TABLES_MACHINE / took:.2f} are minutes of the table.')
 
 
 def main():
     reads = argparse.ArgumentParser(usage=__doc__.split('usage: ')[1].split('\n')[0])
-    reads.add_argument('--no-edits', action='store_true')
-    reads.add_argument('--jobs', type=int, default=len(os.sched_getaffinity(0)))
-    reads.add_argument('crates', nargs='*')
+    reads.add_argument('--log', type=argparse.FileType('w'), default=sys.stderr)
+    reads.add_argument('--beside', type=int, metavar='PID')
     asked = reads.parse_args()
-    room = pathlib.Path(tempfile.mkdtemp(prefix='kpn-gate-'))
-    try:
-        subprocess.run(['git', 'clone', '-q', TOP, room / 'clone'], check=True)
-        for name in ('libraries', 'checked', 'programs'):
-            (room / name).mkdir()
-        known = prover.read_crates(room / 'clone')
-        shown = asked.crates or list(known)
-        needed = dict.fromkeys(it for name in shown for it in [*known[name].below, known[name]])
-        gate = Gate(room, prover.find_kit())
-        spent = measure(gate, list(needed), shown, asked.jobs, not asked.no_edits)
-    finally:
-        shutil.rmtree(room, ignore_errors=True)
-    print('\n'.join(table(spent, [known[it] for it in known if it in shown])))
+    if asked.beside:
+        spent, seconds, status = watch_alone(asked.beside)
+    else:
+        room = pathlib.Path(tempfile.mkdtemp(prefix='kpn-gate-'))
+        try:
+            subprocess.run(['git', 'clone', '-q', TOP, room / 'clone'], check=True)
+            spent, seconds, status = run_and_watch(room / 'clone', asked.log)
+        finally:
+            shutil.rmtree(room, ignore_errors=True)
+    print('\n'.join(table(spent, list(prover.read_crates(TOP).values()))))
+    print(f'{minutes(seconds)} minutes by the clock on {len(os.sched_getaffinity(0))} processors.')
     print(compared(spent))
-    return 0 if gate.is_well else 1
+    return status
 
 
 if __name__ == '__main__':
