@@ -70,6 +70,7 @@ pub(crate) fn most_taken(hidden: Hidden, tokens: &[Lexeme<'_>]) -> usize
 }
 
 /// The name that these bytes are.
+#[tactic(auto, using(crate::proofs::HiddenNames::name_found))]
 fn name_of(alloc: Global, bytes: &'static [u8]) -> Result<Name<'static>, ExpandFault>
     requires { IsName language.Two bytes.now }
     ensures { Yields (λ name. name) result (Ok bytes.now) }
@@ -78,10 +79,12 @@ fn name_of(alloc: Global, bytes: &'static [u8]) -> Result<Name<'static>, ExpandF
         return Err(ExpandFault::NoMemory);
     };
     match tokens.as_slice().first() {
-        Some(Lexeme {
-            token: Token::Name(name),
-            ..
-        }) => Ok(name.copy()),
+        Some(
+            Lexeme {
+                token: Token::Name(name),
+                ..
+            },
+        ) => Ok(name.copy()),
         _ => Err(ExpandFault::NoMemory),
     }
 }
