@@ -173,7 +173,9 @@ fn ring_refusal(
     let made = match size {
         None => Network::new(alloc, programs, instances, channels, limit, policy, growth),
         Some(size) => {
-            Network::sized(alloc, size, programs, instances, channels, limit, policy, growth)
+            Network::sized(
+                alloc, size, programs, instances, channels, limit, policy, growth,
+            )
         }
     };
     Ok(made.err())

@@ -40,7 +40,13 @@ pub(crate) fn case_of<'a>(
         TextFault::Program(_, ProgramFault::TooDeep) => Ok(Case::DeepProgram),
         TextFault::Program(_, ProgramFault::NoMemory) => Ok(Case::NoMemory),
         TextFault::Program(..) => Ok(Case::BrokenProgram),
-        TextFault::Net(broken) => net_case(alloc, text, tokens, name_at(text, places.first), broken),
+        TextFault::Net(broken) => net_case(
+            alloc,
+            text,
+            tokens,
+            name_at(text, places.first),
+            broken,
+        ),
         TextFault::NoMemory => Ok(Case::NoMemory),
     }
 }

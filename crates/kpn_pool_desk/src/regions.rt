@@ -7,7 +7,7 @@ use std::alloc::{AllocError, Allocator};
 
 /// A process, and the region that it is in.
 #[derive(Clone, Copy)]
-struct Member {
+struct RegionMember {
     region: usize,
     process: usize,
 }
@@ -52,12 +52,12 @@ impl<A: Allocator + Copy> Regions<A> {
     fn of(alloc: A, region_of: &[usize]) -> Result<Self, AllocError> {
         let mut members = Vec::with_capacity(alloc, region_of.len())?;
         for p in 0..region_of.len() {
-            members.push(Member {
+            members.push(RegionMember {
                 region: region_of[p],
                 process: p,
             })?;
         }
-        members.sort_by_key(|it: &Member| it.region)?;
+        members.sort_by_key(|it: &RegionMember| it.region)?;
         let mut processes = Vec::with_capacity(alloc, members.len())?;
         let mut ends = Vec::new(alloc);
         for k in 0..members.len() {

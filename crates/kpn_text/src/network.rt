@@ -131,7 +131,8 @@ pub(crate) fn network(
     } = named;
     let programs = programs(alloc, &shared, processes)?;
     let size = network_size(language);
-    let network =
-        Network::sized(alloc, size, programs, instances, channels, limit, policy, growth)?;
+    let network = Network::sized(
+        alloc, size, programs, instances, channels, limit, policy, growth,
+    )?;
     Ok(network)
 }
