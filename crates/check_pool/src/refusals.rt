@@ -8,10 +8,7 @@ use crate::endings::is_ready;
 use crate::networks::POURING;
 use crate::outside::shows;
 use kpn_net::Network;
-use kpn_pool::{
-    Opened, Shared, close, feed, feed_when_room, gather, leave, snapshot, take, take_when_there,
-    work,
-};
+use kpn_pool::{Opened, Shared, close, feed, feed_when_room, gather, leave, snapshot, take, work};
 use kpn_pool_desk::{Go, Job, Refused, SinkSeat, SnapFault, SourceSeat, Why};
 use kpn_text::read_network;
 use linked_list_allocator::LocalHeap;
@@ -187,24 +184,23 @@ fn is_gathered<'a, J: Job, R: Wait>(
     Ok(has_ended && has_ended_again && are_kept && is_new && book.history().len() == 3)
 }
 
-/// Takes all, and then one item, while the heap is full, for a seat whose list has places. Returns whether memory is
-/// refused for an item, and the seat has what was taken before.
-fn takes_until_refused<'a, J: Job, R: Wait + Clock>(
+/// Takes until memory is refused. Returns whether the seat then has what was taken before.
+fn takes_until_refused<'a, J: Job, R: Wait>(
     rt: &R,
-    heap: &'a LocalHeap,
     shared: &Shared<'_, J, &'a LocalHeap>,
     sink: &mut SinkSeat<&'a LocalHeap>,
 ) -> bool {
-    let Some(filling) = fill(heap) else {
-        return false;
-    };
-    let before = sink.taken().len();
-    let all = take_when_there(rt, shared, sink);
-    let taken = sink.taken().len();
-    let one = take(rt, shared, sink);
-    filling.destroy_empty();
-    let are_refused = all == Err(Refused::NoMemory) && one == Err(Refused::NoMemory);
-    are_refused && before < taken && sink.taken().len() == taken
+    for _ in 0..1_000 {
+        let before = sink.taken().len();
+        match take(rt, shared, sink) {
+            Ok(Some(_)) => {}
+            Ok(None) => return false,
+            Err(refused) => {
+                return refused == Refused::NoMemory && sink.taken().len() == before;
+            }
+        }
+    }
+    false
 }
 
 /// A run whose worker writes until the heap is full. Returns whether all is answered as it has to be.
@@ -237,11 +233,10 @@ fn is_poured<'a, J: Job, R: Wait + Clock>(
     let is_put_back = is_ready(&shared.try_snapshot(alloc)?);
     let seat = work(rt, &shared, &gate, seat, 1_000);
     let is_halted = seat.why() == Some(Why::Halted);
-    let is_refused = take(rt, &shared, &mut sink) == Err(Refused::NoMemory);
+    let are_refused = takes_until_refused(rt, &shared, &mut sink);
     filling.destroy_empty();
     let is_taken = take(rt, &shared, &mut sink) == Ok(Some(7));
-    let are_refused = takes_until_refused(rt, heap, &shared, &mut sink);
-    Ok(has_ended && is_put_back && is_halted && is_refused && is_taken && are_refused)
+    Ok(has_ended && is_put_back && is_halted && are_refused && is_taken)
 }
 
 #[test]
