@@ -11,6 +11,14 @@ PAIR = kpn.Process.from_text('process pair(in a, b; out low, high) { while 1 { r
 END = kpn.Process.from_text('process end(in i) { while 1 { read i x; } }')
 
 
+def wide(count):
+    """A network of language 2 with this many channels."""
+    net = kpn.Network(language=2)
+    for _ in range(count):
+        net.channel()
+    return net
+
+
 class Building(unittest.TestCase):
     def setUp(self):
         self.net = kpn.Network()
@@ -183,6 +191,29 @@ network {
         for number in range(257):
             kpn.Process.from_text(f'process p{number}() {{ }}')(net=net)
         self.refused('257 processes: 1 more than the 256', net.check)
+
+    def test_language_2_has_larger_limits(self):
+        def chain(count, **options):
+            net = kpn.Network(**options)
+            stream = net.source('x')
+            for _ in range(count):
+                stream = GAIN(stream, -1)
+            net.sink('y', stream)
+            return net
+        self.refused('. `kpn.Network(language=2)` may have 4096', chain(257).check)
+        net = chain(4_095, language=2)
+        self.assertEqual((net.language, net.run([1, 2])['y']), (2, [-1, -2]))
+        self.refused('4097 instances: 1 more than the 4096', chain(4_097, language=2).check)
+        self.refused('16385 channels: 1 more than the 16384', wide(16_385).check)
+        self.refused('the language', kpn.Network, language=3)
+
+    def test_the_name_of_a_stream_that_flows_into_a_named_channel_is_free_again(self):
+        first, second = self.net.channel('first'), self.net.channel('second')
+        first.connect(GAIN(self.net.source('x'), 2))
+        second.connect(first)
+        self.net.sink('first', second)
+        self.refused('there is another `first` already', copy.deepcopy(self.net).channel, 'first')
+        self.assertEqual(self.net.run([4])['first'], [8])
 
     def test_numbers_that_are_none(self):
         x = self.net.source('x')

@@ -1,12 +1,15 @@
 """The gallery: its stored texts, its sinks against plain Python, and how short its networks are."""
 import inspect
 import math
+import os
+import tempfile
 import unittest
+import unittest.mock
 
 from support import GALLERY, kpn
 
 from kpn import gallery, parts
-from kpn.gallery import cordic, delta_sigma, fft, fir
+from kpn.gallery import cordic, delta_sigma, fft, fir, wavefront
 
 SAMPLES = 10_000
 
@@ -27,6 +30,15 @@ class Gallery(unittest.TestCase):
                 result = module.build().run(given).check()
                 self.assertEqual(dict(result), module.expected(given))
                 self.assertGreater(min(map(len, given.values())), SAMPLES - 16)
+
+    def test_a_wavefront_of_3_600_cells(self):
+        net, given = wavefront.build(60), wavefront.inputs(180, 60)
+        wanted = wavefront.expected(given, 60)
+        self.assertEqual(str(kpn.Network.from_text(str(net))), str(net))
+        for options in ({}, {'workers': 4}):
+            self.assertEqual(dict(net.run(given, **options)), wanted)
+        with tempfile.TemporaryDirectory() as folder, unittest.mock.patch.dict(os.environ, CFLAGS='-O0'):
+            self.assertEqual(dict(net.compile(schedule='batch', cache=folder).run(given)), wanted)
 
     def test_cordic_is_near_cosine_and_sine(self):
         given = cordic.inputs(500)

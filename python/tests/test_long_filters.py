@@ -6,6 +6,7 @@ import random
 import shutil
 import tempfile
 import unittest
+import unittest.mock
 
 from support import kpn, run_one
 import joins
@@ -92,13 +93,13 @@ class LongFilters(unittest.TestCase):
             self.assertEqual(result.faults, {} if len(wanted) == len(items) else {'fir': 'overflow'})
 
     def test_how_many_processes_there_are(self):
-        for wanted, counts in ((1, (64, 1_365, 1_366, 2_048)), (2, (2_049, 4_096)), (3, (4_097,))):
+        for wanted, counts in ((1, (64, 21_845, 21_846, 32_768)), (2, (32_769,))):
             for taps in counts:
                 self.assertEqual(made_of(lambda x: parts.fir(x, [7] * taps)), (wanted, 2))
                 self.assertEqual(made_of(lambda x: parts.decimate(x, [7] * taps, 5, phase=2)), (wanted, 2))
-        for n, taps, wanted in ((16, 3_840, 1), (16, 3_841, 2), (2, 2_730, 1), (4_095, 3, 1), (4_095, 4_096, 2)):
+        for n, taps, wanted in ((16, 61_680, 1), (16, 61_681, 2), (2, 43_690, 1), (65_535, 3, 1), (65_535, 65_536, 2)):
             self.assertEqual(made_of(lambda x: parts.interpolate(x, [7] * taps, n, shift=1)), (wanted, 2))
-        self.assertEqual(made_of(lambda x: parts.interpolate(x, [7] * 3, 4_096)), (2, 1))
+        self.assertEqual(made_of(lambda x: parts.interpolate(x, [7] * 3, 65_536)), (2, 1))
 
     def test_short_filters_need_no_table(self):
         for build, language in ((lambda x: parts.fir(x, [7]), 1), (lambda x: parts.fir(x, [7] * 63), 1),
@@ -108,6 +109,7 @@ class LongFilters(unittest.TestCase):
                                 (lambda x: parts.interpolate(x, [7] * 99, 17), 2)):
             self.assertEqual(made_of(build), (1, language))
 
+    @unittest.mock.patch('kpn.parts.windows.MOST_CELLS', 4_096)
     def test_chains_and_arrays_without_room(self):
         """Each item is once in the arrays of the processes here, but for a factor of 40."""
         sums = convolved(TAPS, ITEMS)
@@ -134,8 +136,8 @@ class LongFilters(unittest.TestCase):
         found, result = run_one(lambda x: parts.polyphase(x, TAPS[:400], 4), A + B)
         self.assertEqual(found, tuple(convolved(TAPS[it:400:4], (A + B)[3 - it::4]) for it in range(4)))
         self.assertEqual(len(result.layout.instances), 5)
-        found = run_one(lambda x: parts.interpolate(x, [3, 4], 5_000), [1, -2])[0]
-        self.assertEqual((found[:2], found[5_000:5_002], sum(map(abs, found))), ([3, 4], [-6, -8], 21))
+        found = run_one(lambda x: parts.interpolate(x, [3, 4], 70_000), [1, -2])[0]
+        self.assertEqual((found[:2], found[70_000:70_002], sum(map(abs, found))), ([3, 4], [-6, -8], 21))
 
     def test_each_part_stays_right_beside_one(self):
         for name in parts.__all__:

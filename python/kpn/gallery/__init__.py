@@ -3,10 +3,10 @@
 Each module has `build()`, which gives the network; `inputs(count)`, which gives that many items for each source; and
 `expected(inputs)`, which computes the sinks by plain Python in another way.
 """
-from . import biquad, cic, cordic, delta_sigma, fft, fir, matrix, pid, run_length
+from . import biquad, cic, cordic, delta_sigma, fft, fir, matrix, pid, run_length, wavefront
 
 GALLERY = {it.__name__.rpartition('.')[2]: it
-           for it in (biquad, cic, cordic, delta_sigma, fft, fir, matrix, pid, run_length)}
+           for it in (biquad, cic, cordic, delta_sigma, fft, fir, matrix, pid, run_length, wavefront)}
 
 
 def stored_text(name: str) -> str:

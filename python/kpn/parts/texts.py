@@ -6,7 +6,7 @@ from typing import Any, Iterable, List, Sequence
 from ..errors import LARGEST, whole
 
 # The most variables of a process, parameters included, the most nodes, and the most cells of its arrays and tables.
-MOST_VARIABLES, MOST_NODES, MOST_CELLS = 64, 4096, 4096
+MOST_VARIABLES, MOST_NODES, MOST_CELLS = 64, 4_096, 65_536
 
 
 def whole_numbers(what: str, given: Any) -> List[int]:

@@ -77,7 +77,7 @@ def decimate(stream: Stream, taps: Sequence[int], n: int, *, shift: int = 0, pha
 def interpolate(stream: Stream, taps: Sequence[int], n: int, *, shift: int = 0) -> Stream:
     """`fir` of the stream with n - 1 zeros after each item; n is 1 or more.
 
-    Up to a factor of 4,095 the products with zeros are not computed. As for `fir`, many taps make the network one of
+    Up to a factor of 65,535 the products with zeros are not computed. As for `fir`, many taps make the network one of
     language 2, and so does a factor above 16.
     Rates: n out for one in. Faults: those of `fir`. A low pass with gain n keeps the height of a signal. Source: the
     taps k, k + n, k + 2 n and so on make the item that is k later.
