@@ -9,7 +9,7 @@ use Rattle.std.proofs.lemmas.Bool.{and_parts, or_parts}
 use Rattle.std.proofs.lemmas.Bool.Decides.{nat_tests}
 use Rattle.kpn_text_tokens.specs.declared.tokens.Language.TheVariants as language
 use Rattle.kpn_text_tokens.specs.declared.tokens.Token.TheVariants as token
-use Rattle.kpn_text_tokens.specs.Lexing.{begins_name, lexemes_of, scan, cons_lexeme}
+use Rattle.kpn_text_tokens.specs.Lexing.{begins_name, lexemes_of, scan}
 use Rattle.kpn_text_tokens.specs.Rules.{IsName, IsWord}
 use Rattle.kpn_text_tokens.specs.Spelling.{keyword_of}
 use Rattle.kpn_text_tokens.proofs.TokenLaws.{scan_spelled, short_text}
@@ -76,12 +76,13 @@ hidden_can h n =
 pub name_read : (x : List ℕ) (found : List Lexeme) → IsName language.Two x → lexemes_of language.Two x ≡ Ok found
     → found ≡ lexeme (token.Name x) 0 ∷ []
 name_read x found is e =
-    let short : length x ≤ 1048576 = omega (arith, is.short) in
+    let few : length x ≤ 32 = is.short in
+    let short : length x ≤ 1048576 = omega (arith, few) in
     let scanned : scan language.Two 0 0 (x ++ []) ≡ Ok (lexeme (token.Name x) 0 ∷ []) =
     scan_spelled language.Two 0 (token.Name x) x [] (is, refl) tt in
     let whole : scan language.Two 0 0 x ≡ Ok (lexeme (token.Name x) 0 ∷ []) =
     subst (λ bs. scan language.Two 0 0 bs ≡ Ok (lexeme (token.Name x) 0 ∷ [])) (append-nil x) scanned in
-    let same : Ok found ≡ Ok (lexeme (token.Name x) 0 ∷ []) = sym e ∙ short_text language.Two x short ∙ whole in
+    let same = sym e ∙ short_text language.Two x short ∙ whole in
     cc
 
 -- so the name that it finds first is that name
@@ -89,7 +90,7 @@ pub name_found : (x y : List ℕ) (found : List Lexeme) (l : Lexeme) → IsName 
     → lexemes_of language.Two x ≡ Ok found → slice_get found 0 ≡ Some l → l.token ≡ token.Name y → x ≡ y
 name_found x y found l is e first named =
     let whole : found ≡ lexeme (token.Name x) 0 ∷ [] = name_read x found is e in
-    let same : Some l ≡ Some (lexeme (token.Name x) 0) = sym first ∙ ap (λ ls. slice_get ls 0) whole in
+    let same : Some l ≡ Some (lexeme (token.Name x) 0) = sym first ∙ ap (λ (ls : List Lexeme). slice_get ls 0) whole in
     let here : l ≡ lexeme (token.Name x) 0 = cc in
     let names : token.Name x ≡ token.Name y = sym (ap (λ (m : Lexeme). m.token) here) ∙ named in
     cc
