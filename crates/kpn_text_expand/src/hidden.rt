@@ -78,13 +78,11 @@ fn name_of(alloc: Global, bytes: &'static [u8]) -> Result<Name<'static>, ExpandF
     let Ok(tokens) = lexemes(alloc, Language::Two, bytes) else {
         return Err(ExpandFault::NoMemory);
     };
-    match tokens.as_slice().first() {
-        Some(
-            Lexeme {
-                token: Token::Name(name),
-                ..
-            },
-        ) => Ok(name.copy()),
+    let Some(lexeme) = tokens.as_slice().first() else {
+        return Err(ExpandFault::NoMemory);
+    };
+    match &lexeme.token {
+        Token::Name(name) => Ok(name.copy()),
         _ => Err(ExpandFault::NoMemory),
     }
 }
