@@ -25,6 +25,8 @@ pub struct RegionTurn<'n, J: Job, A: Allocator = Global> {
     // the last one that was claimed, and how many times in a row
     region: usize,
     times: u32,
+    // how many gets and puts the batch makes at most
+    events: u32,
     is_held: bool,
     run: PhantomData<J>,
 }
@@ -56,6 +58,7 @@ impl<'n, J: Job, A: Allocator> RegionTurn<'n, J, A> {
             batch: None,
             region: usize::MAX,
             times: 0,
+            events: 0,
             is_held: false,
             run: PhantomData,
         }
@@ -121,6 +124,7 @@ impl<'n, J: Job, A: Allocator> RegionTurn<'n, J, A> {
         ensures same { desk.new ≡ with_book desk.new.book desk.old }
     {
         self.is_held = false;
+        self.events = events_per_batch(desk.book.network().instances());
         desk.known();
         let mut batch = match self.batch.take() {
             Some(batch) => batch,
@@ -137,8 +141,7 @@ impl<'n, J: Job, A: Allocator> RegionTurn<'n, J, A> {
         ensures { Runs self.old self.new }
     {
         if let Some(batch) = &mut self.batch {
-            let events = events_per_batch(batch.network().instances());
-            let _ = batch.run(quota.min(STEPS_PER_SHORT_TURN), events);
+            let _ = batch.run(quota.min(STEPS_PER_SHORT_TURN), self.events);
         }
     }
 
