@@ -54,7 +54,8 @@ static bool same(struct kpn_span name, const char *at, size_t length) {
 }
 
 static int compare(const void *first, const void *second) {
-  const struct kpn_span a = (*(struct kpn_channel *const *)first)->name, b = (*(struct kpn_channel *const *)second)->name;
+  const struct kpn_span a = (*(struct kpn_channel *const *)first)->name;
+  const struct kpn_span b = (*(struct kpn_channel *const *)second)->name;
   const int found = memcmp(a.at, b.at, a.length < b.length ? a.length : b.length);
   return found ? found : (a.length > b.length) - (a.length < b.length);
 }

@@ -83,7 +83,8 @@ class Parser:
 
     def settle(self):
         """Goes past the constants that are declared here, and puts the value of one in place of its name."""
-        while self.language == 2 and self.tokens[self.place - 1] in ';{}' and self.tokens[self.place:self.place + 1] == ['const']:
+        while self.language == 2 and self.tokens[self.place:self.place + 1] == ['const'] \
+                and self.tokens[self.place - 1] in ';{}':
             name = self.tokens[self.place + 1]
             assert self.tokens[self.place + 2] == '=', name
             self.place += 3

@@ -1,4 +1,4 @@
-"""Networks of signal processing, built by the package.
+"""Networks of signal processing and a wavefront, built by the package.
 
 Each module has `build()`, which gives the network; `inputs(count)`, which gives that many items for each source; and
 `expected(inputs)`, which computes the sinks by plain Python in another way.

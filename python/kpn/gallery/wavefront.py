@@ -1,4 +1,4 @@
-"""A wavefront: SIZE x SIZE cells compute the edit distance of two words, which go through them from the left and above."""
+"""A wavefront: square rows of cells compute the edit distances of words, which come from the left and from above."""
 from typing import Dict, List
 
 from .. import parts
