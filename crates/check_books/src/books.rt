@@ -1,6 +1,7 @@
 //! Calls of a book, each made on a heap with ever more bytes left until memory suffices.
 mod calls;
 mod heap;
+pub(crate) mod scenes;
 mod telling;
 mod words;
 

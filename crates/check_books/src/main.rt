@@ -1,5 +1,6 @@
 //! Books and machines, by public calls. Standard input has sections that end with a line `.`: a description of a
-//! network, and then a line `calls` with calls below it, one on a line, or a trace.
+//! network, and then a line `calls` with calls below it, one on a line, or `scene NAME`, whose calls stand in the
+//! program, or a trace.
 //!
 //! The program makes each call of a book on a heap with ever more bytes left, from none on, until memory suffices. So
 //! each request for memory fails in turn, and all that the book holds has to stay as it was. Then the program writes the
@@ -25,6 +26,7 @@ mod books;
 mod replays;
 
 use crate::books::make_beside_twin;
+use crate::books::scenes::calls_of;
 use crate::replays::replay;
 use anyhow::{Result, bail};
 use kpn_net::Network;
@@ -45,6 +47,9 @@ enum Below<'a> {
 fn parts_of(section: &str) -> Result<(&str, Below<'_>)> {
     if let Some((description, events)) = section.split_once("\nkpn-trace 1\n") {
         return Ok((description, Below::Events(events)));
+    }
+    if let Some((description, name)) = section.split_once("\nscene ") {
+        return Ok((description, Below::Calls(calls_of(name.trim_end())?)));
     }
     match section.split_once("\ncalls\n") {
         Some((description, calls)) => Ok((description, Below::Calls(calls))),
