@@ -1,4 +1,4 @@
-//! Tests of networks, channels, cycles of waiting processes, histories, joined histories of parts, machines and
+//! Tests of networks, channels, cycles of waiting processes, histories, regions and machines, and
 //! audits, only by public calls: what no clause says, memory that runs out, and worked rows whose values come from
 //! outside.
 #![tactic(auto)]
@@ -14,15 +14,9 @@ mod feeding;
 #[cfg(test)]
 mod histories;
 #[cfg(test)]
-mod joins;
-#[cfg(test)]
 mod networks;
 #[cfg(test)]
-mod refusals;
-#[cfg(test)]
 mod regions;
-#[cfg(test)]
-mod rounds;
 #[cfg(test)]
 mod scenes;
 #[cfg(test)]

@@ -1,11 +1,10 @@
-//! Networks: each refusal at its place and beside the one before it, sizes at their limits, what is at the ends of a
-//! channel, equality, how channels grow, and copies.
+//! Networks: each refusal at its place and beside the one before it, sizes at their limits, equality, and copies.
 use crate::scenes::{Scene, plays};
 use crate::worked::{idle, instance};
 use kpn_lang::Program;
 use kpn_limits::MAX_CAPACITY;
 use kpn_net::ChannelSpec::{Inner, Sink, Source};
-use kpn_net::{ChannelSpec, End, Growth, Instance, NetFault, Network, Policy, same};
+use kpn_net::{ChannelSpec, Growth, Instance, NetFault, Network, Policy, same};
 use kpn_text::read_network;
 use std::alloc::{AllocError, Global};
 use std::process::Abort;
@@ -183,38 +182,8 @@ fn takes_networks_at_the_limits(rt: HostRuntime) -> Result<(), Fail> {
     Ok(())
 }
 
-/// Whether a network of process 0 between the source 0 and the sink 1, with the limit 9, has its rules.
-fn has_its_rules(network: &Network) -> bool {
-    network.limit() == 9 && network.policy() == Policy::Cycles && network.growth() == Growth::One
-}
-
-/// Whether such a network has its ends of channels.
-fn has_its_ends(network: &Network) -> bool {
-    network.channels() == 2
-        && (network.writer_of(0), network.reader_of(0)) == (End::Source, End::Process(0))
-        && (network.writer_of(1), network.reader_of(1)) == (End::Process(0), End::Sink)
-        && (network.is_source(0), network.is_source(1)) == (true, false)
-        && (network.cap_of(0), network.cap_of(1)) == (None, Some(1))
-}
-
-/// Whether such a network has its process.
-fn has_its_process(network: &Network) -> bool {
-    network.instances() == 1
-        && network.programs() == 1
-        && network.program_number(0) == 0
-        && (network.program(0).ins(), network.program_at(0).outs()) == (1, 1)
-        && network.ins(0) == [0].as_slice()
-        && network.outs(0) == [1].as_slice()
-        && network.pars(0).is_empty()
-}
-
-/// Whether it has its rules, its ends and its process.
-pub fn has_its_tables(network: &Network) -> bool {
-    has_its_rules(network) && has_its_ends(network) && has_its_process(network)
-}
-
 /// A process that does nothing.
-pub const IDLE: &str = "process idle(in i; out o) { }
+const IDLE: &str = "process idle(in i; out o) { }
 network { limit 9; source s; sink z cap 1; p = idle(s; z); }
 ";
 
@@ -233,12 +202,6 @@ network { limit 5; source s; sink z cap 1; p = idle(s; z); }
 const IDLE_BY_DOUBLE: &str = "process idle(in i; out o) { }
 network { limit 5; grow double; source s; sink z cap 1; p = idle(s; z); }
 ";
-
-#[test]
-fn tables_of_a_network(rt: HostRuntime) -> Result<(), Fail> {
-    assert!(rt; plays(&rt, rt.alloc(), IDLE, Scene::HasItsTables)?);
-    Ok(())
-}
 
 /// A description of a network, the rules of that, and whether another one is the same.
 #[derive(Clone, Copy)]
@@ -281,30 +244,6 @@ fn networks_are_compared(rt: HostRuntime) -> Result<(), Fail> {
         };
         assert!(rt;
             plays(&rt, rt.alloc(), first, Scene::Compares(with))?,
-            "{text}"
-        );
-    }
-    Ok(())
-}
-
-/// Whether the capacities of a network grow so.
-pub fn grows_so(network: &Network, rows: &[(u32, u32)]) -> bool {
-    for (cap, wanted) in rows {
-        if *cap >= network.limit() || network.larger_capacity(*cap) != *wanted {
-            return false;
-        }
-    }
-    true
-}
-
-#[test]
-fn growths_of_a_network(rt: HostRuntime) -> Result<(), Fail> {
-    for (text, rows) in [
-        (IDLE_BY_ONE, [(1, 2), (2, 3), (3, 4), (4, 5)]),
-        (IDLE_BY_DOUBLE, [(1, 2), (2, 4), (3, 5), (4, 5)]),
-    ] {
-        assert!(rt;
-            plays(&rt, rt.alloc(), text, Scene::GrowsSo(rows.as_slice()))?,
             "{text}"
         );
     }

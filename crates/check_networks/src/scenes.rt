@@ -2,10 +2,8 @@
 //! description and its scene owns nothing.
 use crate::audits::{Audited, is_audited, is_audited_in_time};
 use crate::cycles;
-use crate::networks::{Compared, compares, grows_so, has_its_tables, is_copied};
-use crate::refusals::are_without_memory;
+use crate::networks::{Compared, compares, is_copied};
 use crate::regions::{self, joins, runs};
-use crate::rounds::iterates;
 use kpn_net::Network;
 use kpn_text::read_network;
 use std::alloc::Global;
@@ -15,15 +13,11 @@ use std::test::Fail;
 /// What is asked of a network, by the function that says so.
 #[derive(Clone, Copy)]
 pub enum Scene<'a> {
-    AreWithoutMemory,
     Compares(Compared<'a>),
     FindAll(&'a [cycles::Row<'a>]),
-    GrowsSo(&'a [(u32, u32)]),
-    HasItsTables,
     IsAudited(&'a Audited<'a>),
     IsAuditedInTime,
     IsCopied(&'a str),
-    Iterates,
     /// How much was read, is unread and ever was, of each channel.
     Joins(&'a regions::Row<'a>, &'a [(usize, usize, usize)]),
     Runs(&'a regions::Row<'a>),
@@ -44,15 +38,11 @@ fn plays_on(
     scene: Scene<'_>,
 ) -> Result<bool, Fail> {
     Ok(match scene {
-        Scene::AreWithoutMemory => are_without_memory(rt, alloc, network)?,
         Scene::Compares(with) => compares(alloc, network, with)?,
         Scene::FindAll(rows) => cycles::find_all(rt, alloc, network, rows)?,
-        Scene::GrowsSo(rows) => grows_so(network, rows),
-        Scene::HasItsTables => has_its_tables(network),
         Scene::IsAudited(audited) => is_audited(alloc, network, audited)?,
         Scene::IsAuditedInTime => is_audited_in_time(alloc, network)?,
         Scene::IsCopied(text) => is_copied(alloc, network, text)?,
-        Scene::Iterates => iterates(alloc, network)?,
         Scene::Joins(row, counts) => joins(rt, alloc, network, row, counts)?,
         Scene::Runs(row) => runs(alloc, network, row)?,
     })

@@ -151,7 +151,7 @@ fn ends_twice<J: Job + Send + Sync, R: Wait + Clock>(
     let is_shown = shows(&shared.try_snapshot(alloc)?, 2);
     let (seat, second) = works(rt, alloc, &shared, seat, &[8, 0, 1, 2, 3, 4, 5, 6]);
     let book = gather(shared, vec![in alloc; seat]?);
-    Ok(first && is_shown && second && put_by(&book, &[0, 1, 8]))
+    Ok(first && is_shown && second && put_by(&book, &[0, 1, 8]) && book.history().len() == 9)
 }
 
 /// The gate is asked for processes 0, 1 and 2, and ends the worker at the last. The queue is then 8, 0, 1, 2 and so on.

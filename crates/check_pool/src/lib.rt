@@ -9,11 +9,7 @@ mod always;
 #[cfg(test)]
 mod batching;
 #[cfg(test)]
-mod cells;
-#[cfg(test)]
 mod commits;
-#[cfg(test)]
-mod complete;
 #[cfg(test)]
 mod endings;
 #[cfg(test)]
@@ -23,15 +19,11 @@ mod gates;
 #[cfg(test)]
 mod holding;
 #[cfg(test)]
-mod keeping;
-#[cfg(test)]
 mod locking;
 #[cfg(test)]
 mod looking;
 #[cfg(test)]
 mod meeting;
-#[cfg(test)]
-mod memory;
 #[cfg(test)]
 mod moving;
 #[cfg(test)]

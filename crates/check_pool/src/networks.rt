@@ -155,36 +155,3 @@ pub fn summing(alloc: Global) -> Result<Network, Fail> {
     let ports: [Ports; 1] = [(&[0], &[0])];
     processes(alloc, program, &ports, &[Inner(1)])
 }
-
-/// The cell of this index of three, from this one on.
-fn cell_of_three(alloc: Global, first: usize, index: usize) -> Result<Box<Expr>, AllocError> {
-    let index = Box::new(alloc, Expr::Var(index))?;
-    Ok(Box::new(alloc, Expr::Cell(first, 3, index))?)
-}
-
-/// From the source 0 through two processes to the sink 2. Each keeps three items in an array, and writes the item that
-/// came three before this one, and a number of a table more.
-pub fn delaying(alloc: Global) -> Result<Network, Fail> {
-    let old = cell_of_three(alloc, 64, 1)?;
-    let more = cell_of_three(alloc, 67, 1)?;
-    let next = Box::new(
-        alloc,
-        Expr::Bin(
-            Op::Add,
-            Box::new(alloc, Expr::Var(1))?,
-            Box::new(alloc, Expr::Num(1))?,
-        ),
-    )?;
-    let turn = vec![in alloc;
-        Stmt::Read(0, 0),
-        Stmt::Write(0, Expr::Bin(Op::Add, old, more)),
-        Stmt::Set(64, 3, Expr::Var(1), Expr::Var(0)),
-        Stmt::Assign(1, Expr::Bin(Op::Rem, next, Box::new(alloc, Expr::Num(3))?)),
-    ]?;
-    let first = vec![in alloc; Stmt::While(Expr::Num(1), 1)]?;
-    let blocks = vec![in alloc; first, turn]?;
-    let table = vec![in alloc; 100, 200, 300]?;
-    let program = Program::with_cells(alloc, 1, 1, 0, 2, 3, table, blocks)?;
-    let ports: [Ports; 2] = [(&[0], &[1]), (&[1], &[2])];
-    processes(alloc, program, &ports, &[Source, Inner(LIMIT), Sink(2)])
-}

@@ -85,6 +85,16 @@ fn copies<J: Job + Send + Sync, R: Threads + Wait + Clock + Sync>(
     (seat.why(), came)
 }
 
+/// Whether a snapshot has three items that were fed, and those that were copied.
+fn refutes_snapshot_shows_the_opening_state<J: Job, R: Wait>(
+    rt: &R,
+    alloc: Global,
+    shared: &Shared<'_, J>,
+    source: &SourceSeat,
+) -> bool {
+    shows(&snapshot(rt, alloc, shared, source), &[1, 2, 3], &[1, 2, 3])
+}
+
 /// A whole run by one worker. Returns the seat of the source, or none if something is not answered as it has to be.
 fn copied<J: Job + Send + Sync, R: Threads + Wait + Clock + Sync>(
     rt: &R,
@@ -110,8 +120,7 @@ fn copied<J: Job + Send + Sync, R: Threads + Wait + Clock + Sync>(
     };
     let is_fed = feeds(rt, alloc, &shared, &mut source);
     let (why, came) = copies(rt, &shared, seat, sink);
-    let seen = snapshot(rt, alloc, &shared, &source);
-    let is_shown = shows(&seen, &[1, 2, 3], &[1, 2, 3]);
+    let is_shown = refutes_snapshot_shows_the_opening_state(rt, alloc, &shared, &source);
     if is_fed && came && why == Some(Why::Settled) && is_shown {
         return Ok(Some(source));
     }

@@ -49,14 +49,23 @@ fn all_refused<'a, J: Job, R: Wait>(
         && leave(rt, shared, sink) == Err(Refused::NoMemory)
         && snapshot(rt, heap, shared, source).err() == Some(SnapFault::NoMemory)
         && shared.try_snapshot(heap).is_err()
-        && take(rt, shared, sink) == Ok(None)
+        && refutes_take_invents_an_item(rt, shared, sink)
         && source.fed().is_empty()
         && shows(&snapshot(rt, alloc, shared, source), &[], &[])
 }
 
+/// Whether nothing is taken from a sink on which nothing was put.
+fn refutes_take_invents_an_item<'a, J: Job, R: Wait>(
+    rt: &R,
+    shared: &Shared<'_, J, &'a LocalHeap>,
+    sink: &mut SinkSeat<&'a LocalHeap>,
+) -> bool {
+    take(rt, shared, sink) == Ok(None) && sink.taken().is_empty()
+}
+
 /// Feeds by three items at a time until memory is refused for one, and then one item. Returns whether the seat and the
 /// run then have what was fed before.
-fn feeds_until_refused<'a, J: Job, R: Wait + Clock>(
+fn refutes_feed_drops_its_item<'a, J: Job, R: Wait + Clock>(
     rt: &R,
     alloc: Global,
     shared: &Shared<'_, J, &'a LocalHeap>,
@@ -119,7 +128,7 @@ fn is_fed<'a, J: Job, R: Wait + Clock>(
     let are_refused = all_refused(rt, alloc, heap, &shared, &mut source, &mut sink);
     filling.destroy_empty();
     let is_shown = shows(&snapshot(rt, heap, &shared, &source), &[], &[]);
-    let are_fed = feeds_until_refused(rt, alloc, &shared, &mut source);
+    let are_fed = refutes_feed_drops_its_item(rt, alloc, &shared, &mut source);
     Ok(are_refused && is_shown && are_fed)
 }
 

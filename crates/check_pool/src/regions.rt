@@ -105,7 +105,7 @@ impl<'n, 'a, J: Job> OnlyWorker<'n, 'a, J> {
     }
 
     /// Whether its seat has counted all commits of the run, and no more.
-    fn has_counted(&self) -> bool {
+    fn refutes_counts_commits_nobody_made(&self) -> bool {
         let commits = self.worker.seat.commits();
         self.desk.reason_to_end(commits) == Some(Why::Limit)
             && self.desk.reason_to_end(commits.saturating_add(1)).is_none()
@@ -122,6 +122,12 @@ impl<'n, 'a, J: Job> OnlyWorker<'n, 'a, J> {
             return Ok(false);
         };
         Ok(sink.take_there(&mut self.desk) == Ok(None))
+    }
+
+    /// Whether it claims a region though its gate wants to be asked.
+    fn claims_past_a_gate(&mut self) -> bool {
+        let (desk, region) = (&mut self.desk, &mut self.region);
+        !region.is_held() && region.claim(desk, &TestGate::open(false))
     }
 
     /// Whether no process is held, and the other workers, if there were any, would end.
@@ -153,7 +159,7 @@ fn comes_to_the_limit<'a, J: Job>(
             Ok(true) => {}
             Err(Why::Limit) => {
                 let is_whole = !worker.desk.goes_by_regions();
-                return Ok(regions > 4 && is_whole && worker.has_counted());
+                return Ok(regions > 4 && is_whole && worker.refutes_counts_commits_nobody_made());
             }
             _ => return Ok(false),
         }
@@ -183,7 +189,8 @@ fn commits_though_halted<'a, J: Job>(
     let is_held = worker.claim_region() == Ok(true);
     worker.desk.halt();
     let (why, commits) = worker.run_region();
-    Ok(is_held && why == Some(Why::Halted) && worker.has_halted() && commits > 0)
+    let has_ended = why == Some(Why::Halted) && worker.has_halted();
+    Ok(is_held && has_ended && commits > 0 && !worker.claims_past_a_gate())
 }
 
 /// Where memory was refused.

@@ -15,11 +15,11 @@ use std::thread::Threads;
 use std::time::Clock;
 use test_support::texts::COPY;
 
-/// The items are the numbers from 1 to this one.
-const LAST: i64 = 100;
+/// The items are the numbers from 1 to this one: so many that workers run regions.
+const LAST: i64 = 3_000;
 
 /// Their sum.
-const SUM: i64 = 5_050;
+const SUM: i64 = 4_501_500;
 
 /// A run until a verdict.
 const ALL: Limits = Limits {
@@ -112,7 +112,7 @@ fn is_copied<R: Threads + Wait + Clock + Sync>(
     let client = Takes { sum: 0 };
     let plan = WorkPlan {
         workers: 2,
-        gate: &TestGate::open(false),
+        gate: &TestGate::open(true),
         limits: ALL,
         keeping: Keeping::All,
     };
