@@ -1,5 +1,5 @@
 -- What each phase answers to the text: the document that it spells, or the fault with which it is refused.
-use Rattle.kpn_text.proofs.Common.{◌≡◌, ℕ, List, length, Option, Some, None, Result, Ok, Err, sym, ap, ◌∙◌, subst, inl, inr, Tables, IsNetwork, Lexeme, Language, language_of, OkOr, GrammarFault, Description, description_of, unknown, double, NetworkNames, TextFault, names_in, Document, document_named, document_with, SpellsDocument, grammar_fault, name_fault, Cause, in_grammar, in_names, unless, meant_in, tables_cause, document_of, TellsWhatIsFound, Refuses, TellsCause, TextReads, TokensFail}
+use Rattle.kpn_text.proofs.Common.{◌≡◌, ℕ, List, length, Option, Some, None, Result, Ok, Err, sym, ap, ◌∙◌, subst, inl, inr, Tables, IsNetwork, Lexeme, Language, language_of, OkOr, GrammarFault, Description, description_of, unknown, double, NetworkNames, TextFault, names_in, Document, document_named, document_with, network_size, SpellsDocument, grammar_fault, name_fault, Cause, in_grammar, in_names, unless, meant_in, tables_cause, document_of, TellsWhatIsFound, Refuses, TellsCause, TextReads, TokensFail}
 use Rattle.std.specs.Prelude.{◌⊎◌}
 use Rattle.kpn_text_grammar.specs.declared.fault.GrammarFault.TheVariants as grammar
 use Rattle.kpn_text_grammar.specs.Reading as reading
@@ -8,7 +8,7 @@ use Rattle.kpn_text_names.specs.declared.fault.NameFault.TheVariants as name
 use Rattle.kpn_text_names.specs.Fault as names
 use Rattle.kpn_text_names.specs.Named.{Named, resolve}
 use Rattle.kpn_text.specs.declared.fault.TextFault.TheVariants as text
-use Rattle.kpn_text.proofs.ReadingLaws.{ArePhases, last_phases, one_document, read_spelled, refused_names, refused_tokens, refused_tree, spelled_reads}
+use Rattle.kpn_text.proofs.ReadingLaws.{ArePhases, few_tables, last_phases, one_document, read_spelled, refused_names, refused_tokens, refused_tree, spelled_reads}
 
 found_out : (bytes : List ℕ) (cause : Cause) (f : TextFault) → document_of bytes ≡ Err cause
     → TellsWhatIsFound (Err cause) f → Refuses bytes f

@@ -1,6 +1,6 @@
 -- Names in tables, and tables taken item by item.
 use Rattle.kpn_text.proofs.Common.{◌≡◌, ℕ, zero, suc, ◌+◌, ◌<◌, ◌≤◌, List, [], ◌∷◌, ◌++◌, length, map, get_or, drop, Option, Some, None, Result, Ok, Err, refl, sym, ap, ◌∙◌, subst, append_assoc, append-nil, add-one, arith, length-append, inl, inr, drop-cons, drop_all, Cause, in_network, network_cause, or_cause, programs_cause, program_or, tables_cause, ProgramFault, Parts, first_fault, NetFault, ChannelSpec, Growth, Policy, Instance, NetworkSize, Tables, MakesNetwork, first_network_fault, TextFault, ProgramParts, named_seen, program_seen, NetworkNames, ProcessNames, SharedTables, named_table, names_in, process_names_in, paired, net_fault, TellsCause, program_told}
-use Rattle.std.specs.Prelude.{slice_get, ◌⊎◌}
+use Rattle.std.specs.Prelude.{slice_get, IfSome, IfNone, ◌⊎◌}
 use Rattle.std.proofs.lemmas.Option.{slice_get-get_or, get_or_from_slice_get, slice_get_within}
 use Rattle.kpn_lang.specs.declared.program.ProgramFault.TheVariants as rule
 use Rattle.kpn_net.specs.declared.fault.NetFault.TheVariants as net

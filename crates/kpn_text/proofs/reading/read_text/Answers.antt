@@ -1,5 +1,6 @@
 -- Phase by phase, in the language that the text tells.
-use Rattle.kpn_text.proofs.Common.{◌≡◌, ◌⊎◌, inl, sym, subst, err_from_is_err_and, named_seen, Document, network_size, TokensFail, SpellsDocument, TellsCause, tables_cause}
+use Rattle.std.specs.Prelude.{◌⊎◌}
+use Rattle.kpn_text.proofs.Common.{◌≡◌, inl, sym, subst, err_from_is_err_and, named_seen, Document, network_size, TokensFail, SpellsDocument, TellsCause, tables_cause}
 use Rattle.kpn_text.specs.declared.fault.TextFault.TheVariants as text
 use Rattle.kpn_text_grammar.specs.View as grammar
 use Rattle.kpn_text.proofs.Refusals.{made_spelled, names_refused, network_refused, phases, tokens_refused, tree_refused}
