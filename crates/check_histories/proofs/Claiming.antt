@@ -1,5 +1,6 @@
 -- What follows from the plain tests for worked histories.
 use Rattle.check_histories.proofs.Common.{list_all, ◌≡◌, ◌≢◌, ℕ, suc, true, List, [], ◌∷◌, ◌++◌, take, None, subst, Tables, first_network_fault, Event, Grow, MayFollow, Legal, growth_after, is_quiet, is_quiet-true, is_ended, is_ended-true, Legal-last}
+use Rattle.kpn_net.specs.declared.tables.NetworkSize.TheVariants as size
 use Rattle.check_histories.specs.Claims.{RunsToItsEnd, BreaksAt}
 use Rattle.check_histories.proofs.GrowthTests.{grows, grows-owed, owes_none, owes_none-true}
 use Rattle.check_histories.proofs.NetworkTests.{is_program, network-true}
@@ -8,7 +9,7 @@ use Rattle.check_histories.proofs.Passing.{passes, passes-legal}
 -- each loop has n turns
 
 pub runs_to_its_end : (t : Tables) (n : ℕ) (H : List Event) → list_all is_program t.programs ≡ true
-    → first_network_fault t ≡ None → passes t n H ≡ true → is_quiet t H ≡ true → is_ended t H ≡ true → RunsToItsEnd t H
+    → first_network_fault size.Large t ≡ None → passes t n H ≡ true → is_quiet t H ≡ true → is_ended t H ≡ true → RunsToItsEnd t H
 runs_to_its_end t n H programs sound passed quiet ended = record {
   ended = record {
     network = network-true t programs sound;

@@ -1,5 +1,6 @@
 -- A plain test of tables. If it says yes, they keep the rules of a network, and no program has cells.
 use Rattle.check_histories.proofs.Common.{nat_le, ◌==◌, list_all, ◌≡◌, ℕ, zero, suc, ◌+◌, ◌<◌, Bool, true, false, ◌&&◌, List, [], ◌∷◌, length, get_or, Option, Some, None, refl, arith, and_parts, leb-true, eqb-true, Tables, first_network_fault, IsNetwork}
+use Rattle.kpn_net.specs.declared.tables.NetworkSize.TheVariants as size
 use Rattle.kpn_lang.specs.declared.program.ProgramFault.{ProgramFault}
 use Rattle.kpn_lang.specs.Parts as parts
 use Rattle.kpn_lang.specs.Parts.{Parts, IsProgram}
@@ -31,5 +32,5 @@ programs_at [] k d e h = absurd (omega arith)
 programs_at (p ∷ ps) zero d e h = is_program-true p (and_parts _ _ e).0
 programs_at (p ∷ ps) (suc k) d e h = programs_at ps k d (and_parts _ _ e).1 (omega arith)
 
-pub network-true : (t : Tables) → list_all is_program t.programs ≡ true → first_network_fault t ≡ None → IsNetwork t
+pub network-true : (t : Tables) → list_all is_program t.programs ≡ true → first_network_fault size.Large t ≡ None → IsNetwork t
 network-true t e sound = record { programs = λ k d h. programs_at t.programs k d e h; sound = sound }
