@@ -22,7 +22,7 @@ use crate::regions::{Regions, Times};
 use crate::taking::Takers;
 use crate::tuning::{
     COMMITS_BEFORE_CUT, COMMITS_FACTOR_OF_NEXT_CUT, EVENTS_PER_REGION, LONGEST_TURN_NANOSECONDS,
-    TIMED_COMMITS, events_per_batch,
+    TIMED_COMMITS,
 };
 use kpn_book::Book;
 use kpn_history::State;
@@ -275,10 +275,10 @@ impl<'n, J: Job, A: Allocator> Desk<'n, J, A> {
 
     /// Whether each region that is held, and one more, may use its budget.
     fn is_limit_far(&self) -> bool {
-        let processes = self.book.network().instances();
+        let processes = self.book.network().instances() as u64;
         let regions = (self.division.held as u64).saturating_add(1);
-        let most = u64::from(events_per_batch(processes))
-            .saturating_add(processes as u64)
+        let most = u64::from(EVENTS_PER_REGION)
+            .saturating_add(processes)
             .saturating_mul(regions);
         most <= self.division.limit.saturating_sub(self.book.commits())
     }

@@ -10,7 +10,7 @@ use crate::gate::Gate;
 use crate::job::Job;
 use crate::phases::NextMove;
 use crate::seat::{Why, WorkerSeat};
-use crate::tuning::{CLAIMS_OF_ONE_REGION, STEPS_PER_SHORT_TURN, events_per_batch};
+use crate::tuning::{CLAIMS_OF_ONE_REGION, EVENTS_PER_REGION, STEPS_PER_SHORT_TURN};
 use kpn_book::Refused;
 use kpn_net::Network;
 use kpn_region::Batch;
@@ -25,8 +25,6 @@ pub struct RegionTurn<'n, J: Job, A: Allocator = Global> {
     // the last one that was claimed, and how many times in a row
     region: usize,
     times: u32,
-    // how many gets and puts the batch makes at most
-    events: u32,
     is_held: bool,
     run: PhantomData<J>,
 }
@@ -58,7 +56,6 @@ impl<'n, J: Job, A: Allocator> RegionTurn<'n, J, A> {
             batch: None,
             region: usize::MAX,
             times: 0,
-            events: 0,
             is_held: false,
             run: PhantomData,
         }
@@ -124,7 +121,6 @@ impl<'n, J: Job, A: Allocator> RegionTurn<'n, J, A> {
         ensures same { desk.new ≡ with_book desk.new.book desk.old }
     {
         self.is_held = false;
-        self.events = events_per_batch(desk.book.network().instances());
         desk.known();
         let mut batch = match self.batch.take() {
             Some(batch) => batch,
@@ -141,7 +137,7 @@ impl<'n, J: Job, A: Allocator> RegionTurn<'n, J, A> {
         ensures { Runs self.old self.new }
     {
         if let Some(batch) = &mut self.batch {
-            let _ = batch.run(quota.min(STEPS_PER_SHORT_TURN), self.events);
+            let _ = batch.run(quota.min(STEPS_PER_SHORT_TURN), EVENTS_PER_REGION);
         }
     }
 

@@ -59,15 +59,6 @@ pub(crate) const COMMITS_FACTOR_OF_NEXT_CUT: u64 = 16;
 /// A batch of a region makes at most this many gets and puts: they take as long as a worker looks on.
 pub(crate) const EVENTS_PER_REGION: u32 = 4_096;
 
-/// Or this many for each process of the network, if that is more: a claim copies each, and a commit compares it.
-const EVENTS_PER_PROCESS: u32 = 64;
-
-/// How many gets and puts a batch of a region makes at most, if the network has this many processes.
-pub(crate) fn events_per_batch(processes: usize) -> u32 {
-    let processes = u32::try_from(processes).unwrap_or(u32::MAX);
-    EVENTS_PER_REGION.max(EVENTS_PER_PROCESS.saturating_mul(processes))
-}
-
 /// A worker claims the same region again this many times in a row, whatever the others wait for.
 pub(crate) const CLAIMS_OF_ONE_REGION: u32 = 16;
 
