@@ -93,19 +93,17 @@ fn moved(statements: &[StatementNode<'_>], port: &[u8]) -> Option<u64> {
             StatementNode::Read(name, _) | StatementNode::Write(name, _) => {
                 u64::from(name.bytes == port)
             }
-            StatementNode::If(_, first, second) => alike(
-                moved(first, port)?,
-                moved(second, port)?,
-            )?,
+            StatementNode::If(_, first, second) => {
+                let (first, second) = (moved(first, port)?, moved(second, port)?);
+                if first != second {
+                    return None;
+                }
+                first
+            }
             StatementNode::While(_, body) if names_port(body, port) => return None,
             StatementNode::While(_, _) => 0,
         };
         count = count.checked_add(more)?;
     }
     Some(count)
-}
-
-// A number, if the other one is the same.
-fn alike(one: u64, other: u64) -> Option<u64> {
-    if one == other { Some(one) } else { None }
 }

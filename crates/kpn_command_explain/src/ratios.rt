@@ -1,10 +1,12 @@
 //! How often processes have to go round for each other so that their channels balance.
 
+use kpn_text_grammar::Identifier;
 use std::alloc::{AllocError, Global};
 
 /// A channel: the numbers of its writer and its reader, and the items that each moves there in a turn, at least 1.
 #[derive(Clone, Copy)]
-pub(crate) struct RatedChannel {
+pub(crate) struct RatedChannel<'d, 'a> {
+    pub name: &'d Identifier<'a>,
     pub writer: usize,
     pub reader: usize,
     pub put: u64,
@@ -19,11 +21,11 @@ struct Ratio {
 }
 
 /// The first of these channels that the others contradict, if one does. Nothing is said where numbers become too large.
-pub(crate) fn first_unbalanced(
+pub(crate) fn first_unbalanced<'d, 'a>(
     alloc: Global,
-    links: &[RatedChannel],
+    links: &[RatedChannel<'d, 'a>],
     processes: usize,
-) -> Result<Option<usize>, AllocError> {
+) -> Result<Option<RatedChannel<'d, 'a>>, AllocError> {
     let mut turns: Vec<Option<Ratio>> = vec![in alloc; None; processes]?;
     for p in 0..processes {
         if turns[p].is_none() {
@@ -33,11 +35,16 @@ pub(crate) fn first_unbalanced(
             }
         }
     }
-    Ok(links.iter().position(|link| is_contradicted(*link, &turns)))
+    Ok(
+        links
+            .iter()
+            .copied()
+            .find(|link| is_contradicted(*link, &turns)),
+    )
 }
 
 // What is known of one end of a channel, for the other.
-fn spread(links: &[RatedChannel], turns: &mut [Option<Ratio>]) {
+fn spread(links: &[RatedChannel<'_, '_>], turns: &mut [Option<Ratio>]) {
     for link in links {
         let (writer, reader) = (known(turns, link.writer), known(turns, link.reader));
         match (writer, reader) {
@@ -59,12 +66,11 @@ fn learn(turns: &mut [Option<Ratio>], p: usize, found: Option<Ratio>) {
 }
 
 // Whether both ends of a channel are known, and do not fit.
-fn is_contradicted(link: RatedChannel, turns: &[Option<Ratio>]) -> bool {
+fn is_contradicted(link: RatedChannel<'_, '_>, turns: &[Option<Ratio>]) -> bool {
     match (known(turns, link.writer), known(turns, link.reader)) {
-        (Some(writer), Some(reader)) => match scaled(writer, link.put, link.got) {
-            Some(wanted) => wanted != reader,
-            None => false,
-        },
+        (Some(writer), Some(reader)) => {
+            scaled(writer, link.put, link.got).is_some_and(|wanted| wanted != reader)
+        }
         _ => false,
     }
 }
