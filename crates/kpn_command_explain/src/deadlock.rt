@@ -4,7 +4,7 @@ ghost use Rattle.std.specs.Prelude.{◌≡◌, ◌<◌, true, length, IfOk};
 ghost use Rattle.kpn_deadlock.specs.Told.{AreRings, are_some};
 ghost use Rattle.kpn_command_explain.specs.TraceAnswers.{BeginsByRings, TellsRings};
 
-use crate::outcome::Outcome;
+use crate::legal_history::LegalHistory;
 use kpn_audit::Audit;
 use kpn_command_base::Pushed;
 use kpn_deadlock::rings;
@@ -25,7 +25,7 @@ pub(crate) fn deadlock_text(
     let told = rings_of(alloc, document, audit)?;
     let each = told.as_slice();
     let deadlock = Deadlock {
-        outcome: Outcome { document, audit },
+        history: LegalHistory { document, audit },
         rings: each,
     };
     let words = deadlock.words(alloc)?;
@@ -73,7 +73,7 @@ fn begun_text(alloc: Global, words: &str) -> Result<Vec<u8>, AllocError>
 // A legal history with its rings.
 #[derive(Clone, Copy)]
 struct Deadlock<'d> {
-    outcome: Outcome<'d>,
+    history: LegalHistory<'d>,
     rings: &'d [Sequence<usize>],
 }
 
@@ -108,13 +108,13 @@ impl Deadlock<'_> {
 
     // On which channel a process waits, and for whom.
     fn push_wait(self, text: &mut String, p: usize) -> Pushed {
-        let document = self.outcome.document;
+        let document = self.history.document;
         let name = document.instance_name(p);
-        let c = match self.outcome.wait_of(p) {
+        let c = match self.history.wait_of(p) {
             Wait::Empty(c) | Wait::Full(c) => c,
             Wait::Nobody => return text.push_str(name),
         };
-        let Some(next) = self.outcome.awaited_by(p) else {
+        let Some(next) = self.history.awaited_by(p) else {
             return text.push_str(name);
         };
         let channel = document.channel_name(c);
@@ -130,11 +130,11 @@ impl Deadlock<'_> {
     // Whether a process is a member of a ring, or waits for one that is or that waits behind one.
     fn is_held(self, p: usize) -> bool {
         let mut at = p;
-        for _step in 0..self.outcome.document.network().instances() {
+        for _step in 0..self.history.document.network().instances() {
             if self.is_member(at) {
                 return true;
             }
-            let Some(next) = self.outcome.awaited_by(at) else {
+            let Some(next) = self.history.awaited_by(at) else {
                 return false;
             };
             at = next;
@@ -144,7 +144,7 @@ impl Deadlock<'_> {
 
     // The processes that wait behind rings, on one line.
     fn push_behind(self, text: &mut String) -> Pushed {
-        let document = self.outcome.document;
+        let document = self.history.document;
         let mut lead = "waiting behind it: ";
         for p in 0..document.network().instances() {
             if !self.is_member(p) && self.is_held(p) {
@@ -158,10 +158,10 @@ impl Deadlock<'_> {
 
     // The sources that have items left because of rings, on one line, with how many items these are.
     fn push_left(self, text: &mut String) -> Pushed {
-        let document = self.outcome.document;
+        let document = self.history.document;
         let mut lead = "items left because of it: ";
         for c in 0..document.network().channels() {
-            let left = self.outcome.left_on(c);
+            let left = self.history.left_on(c);
             if left != 0 && self.is_source_held(c) {
                 let name = document.channel_name(c);
                 write!(text, "{lead}{name} {left}")?;
@@ -173,9 +173,9 @@ impl Deadlock<'_> {
 
     // Whether a channel is a source whose reader is a member of a ring or waits behind one.
     fn is_source_held(self, c: usize) -> bool
-        requires { c < length self.outcome.document.now.tables.channels }
+        requires { c < length self.history.document.now.tables.channels }
     {
-        let network = self.outcome.document.network();
+        let network = self.history.document.network();
         match network.reader_of(c) {
             End::Process(p) => network.is_source(c) && self.is_held(p),
             End::Source | End::Sink => false,

@@ -34,7 +34,7 @@ impl From<AllocError> for Stuck {
 // A name of a process and its values: that of a variable, the cells of an array or a table, or the items that the
 // process got at an in port, of which it has read some once more.
 #[derive(Drop)]
-struct Row<'t> {
+struct NamedValues<'t> {
     name: &'t [u8],
     values: Vec<i64>,
     read: usize,
@@ -45,7 +45,7 @@ struct Row<'t> {
 #[derive(Drop)]
 pub(crate) struct FaultFrame<'t> {
     alloc: Global,
-    rows: Vec<Row<'t>>,
+    rows: Vec<NamedValues<'t>>,
     left: u32,
     pub(crate) at: Option<usize>,
     pub(crate) said: Vec<u8>,
@@ -89,7 +89,7 @@ impl<'t> FaultFrame<'t> {
     }
 
     fn add(&mut self, name: &'t [u8], values: Vec<i64>) -> Result<(), AllocError> {
-        let row = Row {
+        let row = NamedValues {
             name,
             values,
             read: 0,

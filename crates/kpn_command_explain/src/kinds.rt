@@ -11,16 +11,16 @@ const LOOKED_AT: usize = 4_096;
 
 const WAV: &[u8] = b"This is a WAV file, which `kpn stream` reads by `--format ";
 
-const MARKED: &[u8] =
+const BYTE_ORDER_MARK: &[u8] =
     b"It begins with a byte order mark, which is no part of an item: store it without one.\n";
 
 const SAMPLES: &[u8] =
     b"These bytes look like samples, which `kpn stream` reads: of 16 bits by `--format ";
 
-const WORDS: &[u8] =
+const NO_ITEMS: &[u8] =
     b"This is text, and no list of items: a line has one whole number, and nothing else.\n";
 
-const LINES: &[u8] =
+const ITEM_LINES: &[u8] =
     b"Write one item on each line: an optional `-` and 1 to 19 digits, and nothing else.\n";
 
 /// Adds what helps if a file of these bytes, for the source of this name, has such a line that spells no item.
@@ -31,13 +31,13 @@ pub(crate) fn push_remedy(told: &mut Vec<u8>, bytes: &[u8], line: &[u8], source:
     } else if first.starts_with(b"RIFF") {
         push_all(told, &[WAV, source.as_bytes(), b"=wav`.\n"])
     } else if begins_any(first, &[b"\xef\xbb\xbf", b"\xff\xfe", b"\xfe\xff"]) {
-        told.extend_from_slice(MARKED)
+        told.extend_from_slice(BYTE_ORDER_MARK)
     } else if looks_like_samples(first) {
         push_all(told, &[SAMPLES, source.as_bytes(), b"=s16le`.\n"])
     } else if first.first().is_some_and(|byte| byte.is_ascii_alphabetic()) {
-        told.extend_from_slice(WORDS)
+        told.extend_from_slice(NO_ITEMS)
     } else {
-        told.extend_from_slice(LINES)
+        told.extend_from_slice(ITEM_LINES)
     }
 }
 

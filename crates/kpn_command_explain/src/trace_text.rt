@@ -8,9 +8,9 @@ use crate::cut::cut_text;
 use crate::deadlock::deadlock_text;
 use crate::excerpt::{push_excerpt, push_where};
 use crate::faults::faults_text;
+use crate::legal_history::LegalHistory;
 use crate::lines::line_start;
 use crate::not_exact::push_not_exact;
-use crate::outcome::Outcome;
 use crate::trace_words::{push_event, push_scene};
 use kpn_audit::{Audit, Scene};
 use kpn_history::{Event, Trace, Version};
@@ -51,7 +51,7 @@ fn not_exact_text(alloc: Global, document: &Document, audit: &Audit) -> Result<S
 {
     let mut text = String::new(alloc);
     if !audit.exact {
-        push_not_exact(&mut text, Outcome { document, audit })?;
+        push_not_exact(&mut text, LegalHistory { document, audit })?;
     }
     Ok(text)
 }

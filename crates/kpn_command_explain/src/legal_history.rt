@@ -7,12 +7,12 @@ use kpn_text::Document;
 
 /// A description, and what an audit has found of a legal history of it.
 #[derive(Clone, Copy)]
-pub(crate) struct Outcome<'d> {
+pub(crate) struct LegalHistory<'d> {
     pub document: &'d Document,
     pub audit: &'d Audit,
 }
 
-impl Outcome<'_> {
+impl LegalHistory<'_> {
     /// On what a process waits.
     pub(crate) fn wait_of(self, p: usize) -> Wait {
         let waits = self.audit.waits.as_slice();
