@@ -11,7 +11,7 @@ const LOOKED_AT: usize = 4_096;
 
 const WAV: &[u8] = b"This is a WAV file, which `kpn stream` reads by `--format ";
 
-const BYTE_ORDER_MARK: &[u8] =
+const STORED_WITH_MARK: &[u8] =
     b"It begins with a byte order mark, which is no part of an item: store it without one.\n";
 
 const SAMPLES: &[u8] =
@@ -31,7 +31,7 @@ pub(crate) fn push_remedy(told: &mut Vec<u8>, bytes: &[u8], line: &[u8], source:
     } else if first.starts_with(b"RIFF") {
         push_all(told, &[WAV, source.as_bytes(), b"=wav`.\n"])
     } else if begins_any(first, &[b"\xef\xbb\xbf", b"\xff\xfe", b"\xfe\xff"]) {
-        told.extend_from_slice(BYTE_ORDER_MARK)
+        told.extend_from_slice(STORED_WITH_MARK)
     } else if looks_like_samples(first) {
         push_all(told, &[SAMPLES, source.as_bytes(), b"=s16le`.\n"])
     } else if first.first().is_some_and(|byte| byte.is_ascii_alphabetic()) {
