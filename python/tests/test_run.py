@@ -149,11 +149,11 @@ class Outcomes(unittest.TestCase):
     def test_a_fault(self):
         result = doubling().run([1, 2**62, 3])
         self.assertEqual((result['y'], result.faults, result.complete), ([2], {'gain': 'overflow'}, {'y': True}))
-        with self.assertRaisesRegex(kpn.KpnError, '`gain` ended by a fault: overflow .a run with `trace=True`'):
+        with self.assertRaisesRegex(kpn.KpnError, '`gain` ended by a fault: overflow in `x . k` .process `gain`, line'):
             result.check()
 
     def test_where_a_fault_was(self):
-        """With a trace it has the place in the text of the process, the expression and the values in it."""
+        """It has the place in the text of the process, the expression and the values in it."""
         text = 'language 2; table t = 5, -1; process p(in i, j; out o; par k) {\n  array a[3]; while 1 {\n' \
             '    read i x;\n    read j y; a[x & 1] = y;\n    if (y) == 0 { } else { if x { write o %s; } } } }'
         for expression, items, column, said in (
@@ -161,24 +161,29 @@ class Outcomes(unittest.TestCase):
                                                                 'y = 1'),
                 ('a[x & 3] * k', ([1, 2, 3], [4, 5, 6]), 43, 'index in `a[x & 3]` (%s), with x = 3, x & 3 = 3, '
                                                              'cells of a = 3'),
-                ('k << (a[1] + t[0])', ([1], [60]), 43, 'shift in `k << a[1] + t[0]` (%s), with k = 9, a[1] = 60, '
+                ('k << (a[1] + t[0])', ([1], [60]), 43, 'shift in `k << (a[1] + t[0])` (%s), with k = 9, a[1] = 60, '
                                                         't[0] = 5'),
                 ('~k * 2 - -(y * y)', ([1], [-2**62]), 54, f'overflow in `y * y` (%s), with y = {-2**62}')):
             said %= f'process `p`, line 5, column {column}'
             net = kpn.Network()
             net.sink('z', kpn.Process.from_text(text % expression)(net.source('s'), net.source('t'), 9))
-            result = net.run(dict(zip('st', items)), trace=True)
-            self.assertEqual(str(result.fault_places['p']), said)
+            for trace in (False, True):
+                result = net.run(dict(zip('st', items)), trace=trace)
+                self.assertEqual(str(result.fault_places['p']), said)
             with self.assertRaisesRegex(kpn.KpnError, re.escape(f'`p` ended by a fault: {said}')) as caught:
                 result.check()
             self.assertEqual(caught.exception.place, ('process `p`', 5, column))
             self.assertEqual(result.fault_places['p'].word, result.faults['p'])
         result = doubling().run([2**62], trace=True)
         self.assertEqual(result.fault_places['gain'].values, {'x': 2**62, 'k': 2})
-        with unittest.mock.patch('kpn.faults.MOST_STEPS', 1):
-            self.assertEqual(result.fault_places, {})
-        self.assertEqual(doubling().run([1], trace=True).fault_places, {})
-        self.assertRaisesRegex(kpn.KpnError, 'give `trace=True`', lambda: doubling().run([2**62]).fault_places)
+        long = 'process p(in i; out o) { read i n; while n { n = (n - 1); } write o (1 / n); }'
+        for steps, places in ((300_000, ['p']), (600_000, [])):
+            net = kpn.Network()
+            net.sink('z', kpn.Process.from_text(long)(net.source('s')))
+            self.assertEqual(list(net.run([steps], trace=True).fault_places), places)
+        result = net.run([steps])
+        self.assertEqual((doubling().run([1], trace=True).fault_places, result.fault_places), ({}, {}))
+        self.assertRaisesRegex(kpn.KpnError, 'ended by a fault: zero-divisor .a run with `trace=True`', result.check)
 
     def test_complete_is_what_stats_says(self):
         for name in 'clogged unclogged deadlock two jammed doubling fault kahn moving_average'.split():
