@@ -8,6 +8,7 @@ use crate::concerned::FaultPlaces;
 use crate::excerpt::{push_excerpt, push_where};
 use crate::excess::push_excess;
 use crate::habits::habit_of;
+use crate::left_out::help_if_left_out;
 use crate::lines::front;
 use crate::names::name_at;
 use crate::pieces::push_all;
@@ -66,7 +67,10 @@ fn push_rest(
     }
     match habit_of(spelled, places.first, case)? {
         Some(habit) => push_all(told, &remedy(habit, language_of(text)))?,
-        None => told.extend_from_slice(advice(case))?,
+        None => told.extend_from_slice(match help_if_left_out(spelled, places.first)? {
+            Some(help) if matches!(case, Case::Misplaced | Case::Reserved) => help,
+            _ => advice(case),
+        })?,
     }
     told.push(b'\n')?;
     Ok(())

@@ -7,6 +7,7 @@ use kpn_text_grammar::{
     Declaration, Description, Expression, Identifier, Literal, ProcessNode, StatementNode, Table,
 };
 use std::alloc::{AllocError, Global};
+use std::mem;
 
 // The most statements, some tenths of a second of work.
 const MOST_STATEMENTS: u32 = 1_000_000;
@@ -31,8 +32,8 @@ impl From<AllocError> for Stuck {
     }
 }
 
-// A name of a process and its values: that of a variable, the cells of an array or a table, or the items that the
-// process got at an in port, of which it has read some once more.
+// A name of a process and its values: that of a variable, none if it is not known; the cells of an array or a table; or
+// the items that the process got at an in port, of which it has read some once more.
 #[derive(Drop)]
 struct NamedValues<'t> {
     name: &'t [u8],
@@ -60,16 +61,7 @@ impl<'t> FaultFrame<'t> {
         pars: &[i64],
         items: Vec<Vec<i64>>,
     ) -> Result<FaultFrame<'t>, AllocError> {
-        let mut frame = FaultFrame {
-            alloc,
-            rows: Vec::new(alloc),
-            left: MOST_STATEMENTS,
-            at: None,
-            said: Vec::new(alloc),
-        };
-        for (name, value) in process.parts.pars.iter().zip(pars) {
-            frame.add(name.bytes, vec![in alloc; *value; 1]?)?;
-        }
+        let mut frame = FaultFrame::without_items(alloc, process, pars)?;
         for (name, items) in process.parts.ins.iter().zip(items) {
             frame.add(name.bytes, items)?;
         }
@@ -84,6 +76,25 @@ impl<'t> FaultFrame<'t> {
         }
         for table in &description.tables {
             frame.add_table(table)?;
+        }
+        Ok(frame)
+    }
+
+    /// A process at its start, of which only the values of its parameters are known.
+    pub(crate) fn without_items(
+        alloc: Global,
+        process: &ProcessNode<'t>,
+        pars: &[i64],
+    ) -> Result<FaultFrame<'t>, AllocError> {
+        let mut frame = FaultFrame {
+            alloc,
+            rows: Vec::new(alloc),
+            left: MOST_STATEMENTS,
+            at: None,
+            said: Vec::new(alloc),
+        };
+        for (name, value) in process.parts.pars.iter().zip(pars) {
+            frame.add(name.bytes, vec![in alloc; *value; 1]?)?;
         }
         Ok(frame)
     }
@@ -124,12 +135,12 @@ impl<'t> FaultFrame<'t> {
         match statement {
             StatementNode::Assign(name, value) => {
                 let value = self.worth(value)?;
-                self.set(name.bytes, value)
+                self.set(name.bytes, Some(value))
             }
             StatementNode::Store(name, index, value) => self.store(name, index, value),
             StatementNode::Read(port, name) => {
                 let item = self.next_item(port.bytes)?;
-                self.set(name.bytes, item)
+                self.set(name.bytes, Some(item))
             }
             StatementNode::Write(_, value) => self.worth(value).map(|_value| ()),
             StatementNode::If(test, first, second) => {
@@ -161,11 +172,28 @@ impl<'t> FaultFrame<'t> {
         Ok(())
     }
 
-    fn set(&mut self, name: &'t [u8], value: i64) -> Result<(), Stuck> {
-        if !self.put(name, 0, value) {
-            self.add(name, vec![in self.alloc; value; 1]?)?;
+    /// Sets a variable, to nothing that is known if there is no value.
+    pub(crate) fn set(&mut self, name: &'t [u8], value: Option<i64>) -> Result<(), Stuck> {
+        let values = match value {
+            Some(value) => vec![in self.alloc; value; 1]?,
+            None => Vec::new(self.alloc),
+        };
+        for row in self.rows.as_mut_slice() {
+            if row.name == name {
+                drop(mem::replace(&mut row.values, values));
+                return Ok(());
+            }
         }
-        Ok(())
+        Ok(self.add(name, values)?)
+    }
+
+    /// The first value of each name that has come, as far as it is known.
+    pub(crate) fn known_values(&self) -> Result<Vec<Option<i64>>, AllocError> {
+        let mut values = Vec::new(self.alloc);
+        for row in self.rows.as_slice() {
+            values.push(row.values.first().copied())?;
+        }
+        Ok(values)
     }
 
     // Whether a name has a value at this place, which is set to another then.
@@ -228,7 +256,10 @@ impl<'t> FaultFrame<'t> {
     ) -> Result<i64, Option<&'e Expression<'a>>> {
         match tree {
             Expression::Number(number) => Ok(number.value()),
-            Expression::Name(name) => Ok(self.cell(name.bytes, 0).unwrap_or(0)),
+            Expression::Name(name) => match self.values(name.bytes) {
+                Some(values) => values.first().copied().ok_or(None),
+                None => Ok(0),
+            },
             Expression::Element(name, index) => {
                 let number = self.value(index)?;
                 self.cell(name.bytes, number).ok_or(Some(tree))

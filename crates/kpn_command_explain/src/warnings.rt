@@ -2,13 +2,23 @@
 //! from the start, and rates that can't balance. Rows show the words.
 
 use crate::excerpt::push_where;
-use crate::first_moves::{FirstMove, first_move, moved_each_turn, names_port};
+use crate::first_moves::{add_first_reads, names_port};
 use crate::pieces::push_all;
 use crate::ratios::{RatedChannel, first_unbalanced};
 use crate::spelled::{Spelled, tokens_of};
+use crate::turns::moved_in_period;
+use itoa::Buffer;
 use kpn_command_base::Pushed;
-use kpn_text_grammar::{Description, Identifier, InstanceNode, Item, ProcessNode};
+use kpn_text_grammar::{Description, Identifier, InstanceNode, Item, Literal, ProcessNode};
 use std::alloc::{AllocError, Global};
+
+// What is told of a right description.
+#[derive(Clone, Copy, PartialEq)]
+enum Warnings {
+    All,
+    // Only which channel can't balance.
+    Balance,
+}
 
 // An instance and its process.
 #[derive(Clone, Copy)]
@@ -19,6 +29,20 @@ struct Member<'d, 'a> {
 
 /// A line for each thing of a right description that may be meant otherwise.
 pub fn warnings_text(alloc: Global, file: &str, text: &[u8]) -> Result<Vec<u8>, AllocError> {
+    told_of(alloc, file, text, Warnings::All)
+}
+
+/// The line of them that tells a channel which can't balance, if there is one.
+pub fn balance_text(alloc: Global, file: &str, text: &[u8]) -> Result<Vec<u8>, AllocError> {
+    told_of(alloc, file, text, Warnings::Balance)
+}
+
+fn told_of(
+    alloc: Global,
+    file: &str,
+    text: &[u8],
+    wanted: Warnings,
+) -> Result<Vec<u8>, AllocError> {
     let meant = tokens_of(alloc, text)?;
     let tokens = meant.as_slice();
     let spelled = Spelled {
@@ -27,7 +51,7 @@ pub fn warnings_text(alloc: Global, file: &str, text: &[u8]) -> Result<Vec<u8>, 
         tokens,
     };
     match spelled.tree()? {
-        Some(tree) => warnings_of(alloc, file, text, &tree),
+        Some(tree) => warnings_of(alloc, file, text, &tree, wanted),
         None => Ok(Vec::new(alloc)),
     }
 }
@@ -37,6 +61,7 @@ fn warnings_of(
     file: &str,
     text: &[u8],
     tree: &Description<'_>,
+    wanted: Warnings,
 ) -> Result<Vec<u8>, AllocError> {
     let members = members_of(alloc, tree)?;
     let described = Described {
@@ -45,12 +70,14 @@ fn warnings_of(
         members: members.as_slice(),
     };
     let mut told = Vec::new(alloc);
-    for process in &tree.processes {
-        let (ins, outs) = (&process.parts.ins, &process.parts.outs);
-        described.push_unnamed(&mut told, process, ins, b" is never read\n")?;
-        described.push_unnamed(&mut told, process, outs, b" is never written\n")?;
+    if wanted == Warnings::All {
+        for process in &tree.processes {
+            let (ins, outs) = (&process.parts.ins, &process.parts.outs);
+            described.push_unnamed(&mut told, process, ins, b" is never read\n")?;
+            described.push_unnamed(&mut told, process, outs, b" is never written\n")?;
+        }
+        described.push_rings(alloc, &mut told)?;
     }
-    described.push_rings(alloc, &mut told)?;
     described.push_unbalanced(alloc, &mut told, &tree.network.items)?;
     Ok(told)
 }
@@ -120,39 +147,66 @@ impl<'s> Described<'s> {
             .position(|member| place_of(&member.instance.ins, channel).is_some())
     }
 
-    // The channel that a member reads before all else.
-    fn first_channel(self, at: usize) -> Option<&'s [u8]> {
-        let member = self.members.get(at)?;
-        match first_move(&member.process.body) {
-            FirstMove::Reads(port) => {
-                let place = place_of(&member.process.parts.ins, port)?;
-                Some(member.instance.ins.get(place)?.bytes)
+    // What a member needs of others before it writes.
+    fn needs_of(self, alloc: Global, member: Member<'s, 's>) -> Result<Vec<FirstNeed<'s>>, AllocError> {
+        let Member { instance, process } = member;
+        let mut ports = Vec::new(alloc);
+        add_first_reads(alloc, &process.body, &mut ports)?;
+        let mut needs = Vec::new(alloc);
+        for port in &ports {
+            if let Some(place) = place_of(&process.parts.ins, port) {
+                if let Some(channel) = instance.ins.get(place) {
+                    if let Some(writer) = self.writer_of(channel.bytes) {
+                        needs.push(FirstNeed {
+                            channel: channel.bytes,
+                            writer,
+                        })?;
+                    }
+                }
             }
-            _ => None,
         }
+        Ok(needs)
     }
 
-    // Adds each ring of members of which each first reads an item of the next.
-    fn push_rings(self, alloc: Global, told: &mut Vec<u8>) -> Pushed {
-        let mut next = Vec::new(alloc);
-        for at in 0..self.members.len() {
-            next.push(match self.first_channel(at) {
-                Some(channel) => self.writer_of(channel),
-                None => None,
-            })?;
+    // For each member that never comes to write what it needs of another such member.
+    fn lasting_needs(self, alloc: Global) -> Result<Vec<Option<FirstNeed<'s>>>, AllocError> {
+        let mut needs = Vec::new(alloc);
+        let mut lasting = Vec::new(alloc);
+        for member in self.members {
+            let found = self.needs_of(alloc, *member)?;
+            lasting.push(found.first().copied())?;
+            needs.push(found)?;
         }
+        for _round in 0..self.members.len() {
+            for (p, found) in needs.as_slice().iter().enumerate() {
+                let kept = found
+                    .iter()
+                    .find(|need| lasting_of(&lasting, need.writer).is_some())
+                    .copied();
+                if p < lasting.len() {
+                    lasting[p] = kept;
+                }
+            }
+        }
+        Ok(lasting)
+    }
+
+    // Adds each ring of members of which each reads an item of the next before it writes.
+    fn push_rings(self, alloc: Global, told: &mut Vec<u8>) -> Pushed {
+        let lasting = self.lasting_needs(alloc)?;
         for start in 0..self.members.len() {
-            if begins_ring(next.as_slice(), start) {
-                self.push_ring(told, next.as_slice(), start)?;
+            if begins_ring(lasting.as_slice(), start) {
+                self.push_ring(told, lasting.as_slice(), start)?;
             }
         }
         Ok(())
     }
 
-    fn push_ring(self, told: &mut Vec<u8>, next: &[Option<usize>], start: usize) -> Pushed {
+    fn push_ring(self, told: &mut Vec<u8>, lasting: &[Option<FirstNeed<'_>>], start: usize) -> Pushed {
         let mut at = start;
         for turn in 0..self.members.len() {
-            let Some(member) = self.members.get(at).copied() else {
+            let (Some(member), Some(need)) = (self.members.get(at).copied(), lasting_of(lasting, at))
+            else {
                 break;
             };
             let instance = member.instance;
@@ -161,12 +215,10 @@ impl<'s> Described<'s> {
             } else {
                 push_all(told, &[b", `", instance.name.bytes, b"`"])?;
             }
-            if let Some(channel) = self.first_channel(at) {
-                push_all(told, &[b" first reads `", channel, b"`"])?;
-            }
-            match next.get(at).copied().unwrap_or(None) {
-                Some(after) if after != start => at = after,
-                _ => break,
+            push_all(told, &[b" reads `", need.channel, b"` before it writes"])?;
+            at = need.writer;
+            if at == start {
+                break;
             }
         }
         told.extend_from_slice(
@@ -176,29 +228,71 @@ impl<'s> Described<'s> {
 
     // Adds a channel whose rate is not the one that the other channels give its ends.
     fn push_unbalanced(self, alloc: Global, told: &mut Vec<u8>, items: &[Item<'_>]) -> Pushed {
+        let periods = self.periods(alloc)?;
         let mut links = Vec::new(alloc);
         for item in items {
             if let Item::Channel(name, _) = item {
-                if let Some(link) = self.link_of(name) {
+                if let Some(link) = self.link_of(periods.as_slice(), name) {
                     links.push(link)?;
                 }
             }
         }
-        match first_unbalanced(alloc, links.as_slice(), self.members.len())? {
-            Some(link) => self.push_named(told, link.name, UNBALANCED),
-            None => Ok(()),
-        }
+        let Some((link, ratio)) = first_unbalanced(alloc, links.as_slice(), self.members.len())?
+        else {
+            return Ok(());
+        };
+        self.push_named(told, link.name, b" can't balance: by the other channels ")?;
+        self.push_moves(told, link.writer, b" puts ", ratio.over)?;
+        told.extend_from_slice(b" there where ")?;
+        self.push_moves(told, link.reader, b" gets ", ratio.under)?;
+        told.push(b'\n')?;
+        Ok(())
     }
 
-    // The ends of a channel, and how many items each moves there in a turn of its loop, if that is known and not 0.
-    fn link_of<'d, 'a>(self, name: &'d Identifier<'a>) -> Option<RatedChannel<'d, 'a>> {
+    // Adds how many items a member moves.
+    fn push_moves(self, told: &mut Vec<u8>, p: usize, moves: &[u8], count: u64) -> Pushed {
+        let Some(member) = self.members.get(p).copied() else {
+            return Ok(());
+        };
+        let mut buffer = Buffer::new();
+        let digits = buffer.format(count).as_bytes();
+        let items: &[u8] = if count == 1 { b" item" } else { b" items" };
+        push_all(told, &[b"`", member.instance.name.bytes, b"`", moves, digits, items])
+    }
+
+    // For each member how many items a period moves at its ports; nothing if that is not known.
+    fn periods(self, alloc: Global) -> Result<Vec<Vec<u64>>, AllocError> {
+        let mut periods = Vec::new(alloc);
+        for member in self.members {
+            let Member { instance, process } = *member;
+            let mut pars = Vec::new(alloc);
+            for value in &instance.values {
+                pars.push(match value {
+                    Literal::Plain(number) => number.value(),
+                    Literal::Negated(number) => number.value().wrapping_neg(),
+                })?;
+            }
+            periods.push(match moved_in_period(alloc, process, pars.as_slice()) {
+                Ok(moved) => moved,
+                Err(_) => Vec::new(alloc),
+            })?;
+        }
+        Ok(periods)
+    }
+
+    // The ends of a channel, and how many items each moves there in a period, if that is known and not 0.
+    fn link_of<'d, 'a>(
+        self,
+        periods: &[Vec<u64>],
+        name: &'d Identifier<'a>,
+    ) -> Option<RatedChannel<'d, 'a>> {
         let (writer, reader) = (self.writer_of(name.bytes)?, self.reader_of(name.bytes)?);
         let (puts, gets) = (self.members.get(writer)?, self.members.get(reader)?);
-        let (outs, ins) = (&puts.process.parts.outs, &gets.process.parts.ins);
-        let out = outs.get(place_of(&puts.instance.outs, name.bytes)?)?;
-        let into = ins.get(place_of(&gets.instance.ins, name.bytes)?)?;
-        let put = moved_each_turn(&puts.process.body, out.bytes)?;
-        let got = moved_each_turn(&gets.process.body, into.bytes)?;
+        let out = place_of(&puts.instance.outs, name.bytes)?;
+        let into = place_of(&gets.instance.ins, name.bytes)?;
+        let out = puts.process.parts.ins.len().checked_add(out)?;
+        let put = periods.get(writer)?.get(out).copied()?;
+        let got = periods.get(reader)?.get(into).copied()?;
         if put == 0 || got == 0 {
             return None;
         }
@@ -212,18 +306,26 @@ impl<'s> Described<'s> {
     }
 }
 
+// A channel that a member reads before it writes, and the member that writes there.
+#[derive(Clone, Copy)]
+struct FirstNeed<'a> {
+    channel: &'a [u8],
+    writer: usize,
+}
+
+fn lasting_of<'a>(lasting: &[Option<FirstNeed<'a>>], p: usize) -> Option<FirstNeed<'a>> {
+    lasting.get(p).copied().unwrap_or(None)
+}
+
 // Whether a member stands in a ring, and is the first of it in order of number.
-fn begins_ring(next: &[Option<usize>], start: usize) -> bool {
+fn begins_ring(lasting: &[Option<FirstNeed<'_>>], start: usize) -> bool {
     let mut at = start;
-    for _turn in 0..next.len() {
-        match next.get(at).copied().unwrap_or(None) {
-            Some(after) if after == start => return true,
-            Some(after) if after > start => at = after,
+    for _turn in 0..lasting.len() {
+        match lasting_of(lasting, at) {
+            Some(need) if need.writer == start => return true,
+            Some(need) if need.writer > start => at = need.writer,
             _ => return false,
         }
     }
     false
 }
-
-const UNBALANCED: &[u8] =
-    b" can't balance: by the other channels its writer puts more or fewer items there than its reader gets.\n";
