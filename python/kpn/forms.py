@@ -8,10 +8,10 @@ import collections
 from typing import Dict, List, Mapping, Sequence, Tuple
 
 from .errors import LARGEST, KpnError, Spot
-from .faults import Values
 from .language import Reader, Token, is_name, number_of
 from .process import Process
 from .program import explain
+from .values import value_or_none
 
 # After these a constant may be declared, and a statement begins.
 BEGINNINGS = frozenset(';{}')
@@ -68,7 +68,7 @@ class FullReader(Reader):
                 self.fail()
         tree = self.expression()
         self.need(';')
-        value = Values().known(tree)
+        value = value_or_none(tree, {}, {})
         if value is None or value < -LARGEST:
             self.place = start
             self.fail()

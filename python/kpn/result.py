@@ -6,6 +6,7 @@ import os
 import pathlib
 import re
 import shutil
+import subprocess
 import tempfile
 import warnings
 import weakref
@@ -271,9 +272,9 @@ class Result(collections.abc.Mapping):  # type: ignore[type-arg]
     def fault_places(self) -> Dict[str, Fault]:
         """For each instance that a fault ended a `Fault`: its word, the place, the expression and the values there.
 
-        It steps through the process again, and leaves out one that takes more than a million statements.
+        A process that takes more than a million statements up to its fault is left out.
         """
-        return faults_of(self.faults, self._layout, self._traced()[1])
+        return faults_of(self.faults, self._layout, self._asked('explain').stderr)
 
     def trace(self) -> Trace:
         """The events of the run, with names: a `Trace` to loop over."""
@@ -432,11 +433,15 @@ class Result(collections.abc.Mapping):  # type: ignore[type-arg]
 
     def _ask(self, command: str, *words: str) -> str:
         """What a command says of the network and the trace."""
+        return self._asked(command, *words).stdout
+
+    def _asked(self, command: str, *words: str) -> subprocess.CompletedProcess[str]:
+        """The call of a command on the network and the trace."""
         folder, trace = self._traced()
         done = call([command, TEXT, trace, *words], self._program, folder)
         if done.returncode:
             raise failure(done)
-        return done.stdout
+        return done
 
     def keep(self, folder: Folder, trace: str) -> None:
         """Keeps the folder with the text, and the file of the trace, if it is not there."""

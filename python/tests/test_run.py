@@ -161,7 +161,7 @@ class Outcomes(unittest.TestCase):
                                                                 'y = 1'),
                 ('a[x & 3] * k', ([1, 2, 3], [4, 5, 6]), 43, 'index in `a[x & 3]` (%s), with x = 3, x & 3 = 3, '
                                                              'cells of a = 3'),
-                ('k << (a[1] + t[0])', ([1], [60]), 43, 'shift in `k << a[1] + t[0]` (%s), with k = 9, a[1] = 60, '
+                ('k << (a[1] + t[0])', ([1], [60]), 43, 'shift in `k << (a[1] + t[0])` (%s), with k = 9, a[1] = 60, '
                                                         't[0] = 5'),
                 ('~k * 2 - -(y * y)', ([1], [-2**62]), 54, f'overflow in `y * y` (%s), with y = {-2**62}')):
             said %= f'process `p`, line 5, column {column}'
@@ -175,8 +175,11 @@ class Outcomes(unittest.TestCase):
             self.assertEqual(result.fault_places['p'].word, result.faults['p'])
         result = doubling().run([2**62], trace=True)
         self.assertEqual(result.fault_places['gain'].values, {'x': 2**62, 'k': 2})
-        with unittest.mock.patch('kpn.faults.MOST_STEPS', 1):
-            self.assertEqual(result.fault_places, {})
+        long = 'process p(in i; out o) { read i n; while n { n = (n - 1); } write o (1 / n); }'
+        for steps, places in ((300_000, ['p']), (600_000, [])):
+            net = kpn.Network()
+            net.sink('z', kpn.Process.from_text(long)(net.source('s')))
+            self.assertEqual(list(net.run([steps], trace=True).fault_places), places)
         self.assertEqual(doubling().run([1], trace=True).fault_places, {})
         self.assertRaisesRegex(kpn.KpnError, 'give `trace=True`', lambda: doubling().run([2**62]).fault_places)
 

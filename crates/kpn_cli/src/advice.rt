@@ -1,7 +1,9 @@
 //! What to do about an outcome: about a ring of processes or a fault, about a run that is clogged, jammed or stopped,
 //! and about a source without items.
 
-use crate::faults::{FedFiles, lines_of_stream, push_faults, push_meaning, unsaid_faults};
+use crate::faults::{
+    FedFiles, lines_of_stream, push_faults, push_meaning, push_traced_faults, unsaid_faults,
+};
 use crate::pieces::{file_in, has_name, has_one, is_of, is_plain, push, push_name, text_of};
 use crate::room::push_room;
 use crate::sounds::push_sounds;
@@ -9,7 +11,7 @@ use crate::stopped::{push_looks, push_others};
 use crate::waits::waits_in;
 use crate::words::Evidence;
 use kpn_command_base::{EndKind, RunRequest, StreamRequest};
-use kpn_command_explain::warnings_text;
+use kpn_command_explain::{Warnings, warnings_text};
 use kpn_command_line::Request;
 use kpn_shelf::{STANDARD, Shelf};
 use kpn_text::Document;
@@ -52,6 +54,7 @@ pub(crate) fn push_advice<R: Files, S: Shelf>(
         Request::Run(run) => {
             let document = evidence.plain_document(run.file);
             push_outcome(text, status)?;
+            push_warnings(text, run.file, Warnings::Balance, evidence)?;
             match &document {
                 Some(document) => push_run(text, run, document, status, evidence),
                 None => Ok(()),
@@ -60,6 +63,9 @@ pub(crate) fn push_advice<R: Files, S: Shelf>(
         Request::Stream(stream) => {
             let document = evidence.plain_document(stream.file);
             push_outcome(text, status)?;
+            if !stream.quiet {
+                push_warnings(text, stream.file, Warnings::Balance, evidence)?;
+            }
             match &document {
                 Some(document) => {
                     push_sounds(text, stream, document, evidence)?;
@@ -68,7 +74,12 @@ pub(crate) fn push_advice<R: Files, S: Shelf>(
                 None => Ok(()),
             }
         }
-        Request::Check(file) if status == 0 => push_warnings(text, file, evidence),
+        Request::Check(file) if status == 0 => push_warnings(text, file, Warnings::All, evidence),
+        Request::Explain {
+            file,
+            trace: Some(trace),
+            ..
+        } if status == 0 => push_traced_faults(text, file, trace, evidence),
         _ if status == 5 => push(text, MORE_STEPS),
         _ => Ok(()),
     }
@@ -78,6 +89,7 @@ pub(crate) fn push_advice<R: Files, S: Shelf>(
 fn push_warnings<R: Files, S: Shelf>(
     text: &mut Vec<u8>,
     file: &str,
+    wanted: Warnings,
     evidence: &Evidence<'_, R, S>,
 ) -> Result<(), AllocError> {
     if !is_plain(evidence.rt, file) {
@@ -86,7 +98,7 @@ fn push_warnings<R: Files, S: Shelf>(
     let Ok(bytes) = evidence.shelf.load(evidence.alloc, file) else {
         return Ok(());
     };
-    let told = warnings_text(evidence.alloc, file, &bytes)?;
+    let told = warnings_text(evidence.alloc, file, &bytes, wanted)?;
     text.extend_from_slice(&told)
 }
 

@@ -8,6 +8,7 @@ use crate::concerned::{FaultPlaces, concerned_places};
 use crate::excerpt::{push_excerpt, push_where};
 use crate::excess::push_excess;
 use crate::habits::habit_of;
+use crate::left_out::help_if_left_out;
 use crate::lines::front;
 use crate::names::name_at;
 use crate::port_counts::push_port_counts;
@@ -72,7 +73,13 @@ fn rest_of<'a>(
     }
     let help = match habit {
         Some(habit) => remedy(habit, language_of(text)),
-        None => advice(case),
+        None => {
+            let left_out = help_if_left_out(alloc, text, tokens, places.first)?;
+            match (case, left_out) {
+                (Case::Misplaced | Case::Reserved, Some(help)) => help,
+                _ => advice(case),
+            }
+        }
     };
     told.extend_from_slice(help)?;
     told.push(b'\n')?;

@@ -31,11 +31,11 @@ impl From<AllocError> for Stuck {
     }
 }
 
-// A variable and its value.
+// A variable and its value, if that is known.
 #[derive(Drop)]
 struct Variable<'t> {
     name: &'t [u8],
-    value: i64,
+    value: Option<i64>,
 }
 
 // An array or a table.
@@ -75,21 +75,7 @@ impl<'t> FaultFrame<'t> {
         pars: &[i64],
         items: Vec<Vec<i64>>,
     ) -> Result<FaultFrame<'t>, AllocError> {
-        let mut frame = FaultFrame {
-            alloc,
-            variables: Vec::new(alloc),
-            rows: Vec::new(alloc),
-            ports: Vec::new(alloc),
-            left: MOST_STATEMENTS,
-            at: None,
-            said: Vec::new(alloc),
-        };
-        for (name, value) in process.parts.pars.iter().zip(pars) {
-            frame.variables.push(Variable {
-                name: name.bytes,
-                value: *value,
-            })?;
-        }
+        let mut frame = FaultFrame::without_items(alloc, process, pars)?;
         for (name, items) in process.parts.ins.iter().zip(items) {
             frame.ports.push(InPort {
                 name: name.bytes,
@@ -99,6 +85,30 @@ impl<'t> FaultFrame<'t> {
         }
         frame.add_rows(description, process)?;
         Ok(frame)
+    }
+
+    /// A process at its start, of which only the values of its parameters are known.
+    pub(crate) fn without_items(
+        alloc: Global,
+        process: &ProcessNode<'t>,
+        pars: &[i64],
+    ) -> Result<FaultFrame<'t>, AllocError> {
+        let mut variables = Vec::new(alloc);
+        for (name, value) in process.parts.pars.iter().zip(pars) {
+            variables.push(Variable {
+                name: name.bytes,
+                value: Some(*value),
+            })?;
+        }
+        Ok(FaultFrame {
+            alloc,
+            variables,
+            rows: Vec::new(alloc),
+            ports: Vec::new(alloc),
+            left: MOST_STATEMENTS,
+            at: None,
+            said: Vec::new(alloc),
+        })
     }
 
     // Adds the arrays and the tables of a process, and then the shared tables, of which none has the same name.
@@ -155,12 +165,12 @@ impl<'t> FaultFrame<'t> {
         match statement {
             StatementNode::Assign(name, value) => {
                 let value = self.worth(value)?;
-                self.set(name.bytes, value)
+                self.set(name.bytes, Some(value))
             }
             StatementNode::Store(name, index, value) => self.store(name, index, value),
             StatementNode::Read(port, name) => {
                 let item = self.next_item(port.bytes)?;
-                self.set(name.bytes, item)
+                self.set(name.bytes, Some(item))
             }
             StatementNode::Write(_, value) => {
                 self.worth(value)?;
@@ -195,7 +205,8 @@ impl<'t> FaultFrame<'t> {
         Ok(())
     }
 
-    fn set(&mut self, name: &'t [u8], value: i64) -> Result<(), Stuck> {
+    /// Sets a variable, to nothing that is known if there is no value.
+    pub(crate) fn set(&mut self, name: &'t [u8], value: Option<i64>) -> Result<(), Stuck> {
         for variable in self.variables.as_mut_slice() {
             if variable.name == name {
                 variable.value = value;
@@ -258,7 +269,7 @@ impl<'t> FaultFrame<'t> {
     pub(crate) fn value(&self, tree: &Expression<'_>) -> Result<i64, Stuck> {
         match tree {
             Expression::Number(number) => Ok(number.value()),
-            Expression::Name(name) => Ok(self.variable(name.bytes)),
+            Expression::Name(name) => self.variable(name.bytes).ok_or(Stuck::Lost),
             Expression::Element(name, index) => {
                 let number = self.value(index)?;
                 self.cell(name.bytes, number).ok_or(Stuck::Faulted)
@@ -286,14 +297,14 @@ impl<'t> FaultFrame<'t> {
         }
     }
 
-    // The value of a variable. One that was not set is 0.
-    fn variable(&self, name: &[u8]) -> i64 {
+    // The value of a variable, if it is known. One that was not set is 0.
+    fn variable(&self, name: &[u8]) -> Option<i64> {
         for variable in self.variables.as_slice() {
             if variable.name == name {
                 return variable.value;
             }
         }
-        0
+        Some(0)
     }
 
     // The value of a cell, if it is there.

@@ -4,10 +4,11 @@ ghost use Rattle.std.specs.Prelude.{◌<◌, length};
 
 use crate::excerpt::{push_excerpt, push_where};
 use crate::fault_frame::{FaultFrame, Stuck};
-use kpn_history::Event;
+use kpn_history::{Event, How};
 use kpn_text::{Document, meant_tokens};
 use kpn_text_grammar::description;
 use kpn_text_tokens::language_of;
+use kpn_trace::read_trace;
 use std::alloc::{AllocError, Global};
 
 /// The items that a process got, for each of its in ports.
@@ -91,5 +92,36 @@ pub fn fault_text(
     out.extend_from_slice(&frame.said)?;
     out.push(b'\n')?;
     push_excerpt(&mut out, text, at)?;
+    Ok(out)
+}
+
+/// The same of each fault in the bytes of a trace of this network, in the order of its events. It is empty if these are
+/// no trace.
+pub fn traced_faults_text(
+    alloc: Global,
+    file: &str,
+    text: &[u8],
+    document: &Document,
+    trace: &[u8],
+) -> Result<Vec<u8>, AllocError> {
+    let mut out = Vec::new(alloc);
+    let Ok(trace) = read_trace(alloc, trace) else {
+        return Ok(out);
+    };
+    let events = trace.events.as_slice();
+    for event in events {
+        let Event::Ended(p, how) = *event else {
+            continue;
+        };
+        if how == How::Done || document.network().instances() <= usize::from(p) {
+            continue;
+        }
+        let mut got = GottenItems::new(alloc, document, p.into())?;
+        for event in events {
+            got.add(*event)?;
+        }
+        let told = fault_text(alloc, file, text, document, got)?;
+        out.extend_from_slice(&told)?;
+    }
     Ok(out)
 }

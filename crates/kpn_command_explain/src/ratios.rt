@@ -11,19 +11,20 @@ pub(crate) struct RatedChannel {
     pub got: u64,
 }
 
-// How many turns of a process there are, as a fraction.
+/// A fraction.
 #[derive(Clone, Copy, PartialEq)]
-struct Ratio {
-    over: u64,
-    under: u64,
+pub(crate) struct Ratio {
+    pub over: u64,
+    pub under: u64,
 }
 
-/// The first of these channels that the others contradict, if one does. Nothing is said where numbers become too large.
+/// The first of these channels that the others contradict, if one does, and by them the items that are put there for
+/// those that are got. Nothing is said where numbers become too large.
 pub(crate) fn first_unbalanced(
     alloc: Global,
     links: &[RatedChannel],
     processes: usize,
-) -> Result<Option<usize>, AllocError> {
+) -> Result<Option<(usize, Ratio)>, AllocError> {
     let mut turns: Vec<Option<Ratio>> = vec![in alloc; None; processes]?;
     for p in 0..processes {
         if turns[p].is_none() {
@@ -33,7 +34,12 @@ pub(crate) fn first_unbalanced(
             }
         }
     }
-    Ok(links.iter().position(|link| is_contradicted(*link, &turns)))
+    for (at, link) in links.iter().enumerate() {
+        if let Some(ratio) = contradiction(*link, &turns) {
+            return Ok(Some((at, ratio)));
+        }
+    }
+    Ok(None)
 }
 
 // What is known of one end of a channel, for the other.
@@ -58,15 +64,15 @@ fn learn(turns: &mut [Option<Ratio>], p: usize, found: Option<Ratio>) {
     }
 }
 
-// Whether both ends of a channel are known, and do not fit.
-fn is_contradicted(link: RatedChannel, turns: &[Option<Ratio>]) -> bool {
-    match (known(turns, link.writer), known(turns, link.reader)) {
-        (Some(writer), Some(reader)) => match scaled(writer, link.put, link.got) {
-            Some(wanted) => wanted != reader,
-            None => false,
-        },
-        _ => false,
+// The items that are put on a channel for those that are got, if both ends are known and these are not as many.
+fn contradiction(link: RatedChannel, turns: &[Option<Ratio>]) -> Option<Ratio> {
+    let (writer, reader) = (known(turns, link.writer)?, known(turns, link.reader)?);
+    let put = scaled(writer, link.put, link.got)?;
+    let ratio = scaled(put, reader.under, reader.over)?;
+    if ratio.over == ratio.under {
+        return None;
     }
+    Some(ratio)
 }
 
 // This many turns times a fraction, in lowest terms.

@@ -2,11 +2,14 @@
 //! from the start, and rates that can't balance. Rows show the words.
 
 use crate::excerpt::push_where;
-use crate::first_moves::{FirstMove, first_move, moved_each_turn, names_port};
+use crate::first_moves::{add_first_reads, names_port};
 use crate::ratios::{RatedChannel, first_unbalanced};
+use crate::turns::moved_in_turn;
+use itoa::Buffer;
 use kpn_text::{TextFault, meant_tokens};
 use kpn_text_grammar::{
-    Description, GrammarFault, Identifier, InstanceNode, Item, ProcessNode, description,
+    Description, GrammarFault, HeadParts, Identifier, InstanceNode, Item, Literal, ProcessNode,
+    description,
 };
 use kpn_text_tokens::language_of;
 use std::alloc::{AllocError, Global};
@@ -25,8 +28,21 @@ struct Member<'d, 'a> {
     process: &'d ProcessNode<'a>,
 }
 
+/// What is told of a right description.
+#[derive(Clone, Copy, PartialEq)]
+pub enum Warnings {
+    All,
+    /// Only which channel can't balance.
+    Balance,
+}
+
 /// A line for each thing of a right description that may be meant otherwise.
-pub fn warnings_text(alloc: Global, file: &str, text: &[u8]) -> Result<Vec<u8>, AllocError> {
+pub fn warnings_text(
+    alloc: Global,
+    file: &str,
+    text: &[u8],
+    wanted: Warnings,
+) -> Result<Vec<u8>, AllocError> {
     let mut told = Vec::new(alloc);
     let language = language_of(text);
     let tokens = match meant_tokens(alloc, language, text) {
@@ -40,24 +56,15 @@ pub fn warnings_text(alloc: Global, file: &str, text: &[u8]) -> Result<Vec<u8>, 
         Err(_) => return Ok(told),
     };
     let source = Described { file, text };
-    for process in &tree.processes {
-        push_unnamed(
-            &mut told,
-            source,
-            process,
-            &process.parts.ins,
-            b" is never read",
-        )?;
-        push_unnamed(
-            &mut told,
-            source,
-            process,
-            &process.parts.outs,
-            b" is never written",
-        )?;
-    }
     let members = members_of(alloc, &tree)?;
-    push_rings(alloc, &mut told, source, members.as_slice())?;
+    if wanted == Warnings::All {
+        for process in &tree.processes {
+            let HeadParts { ins, outs, .. } = &process.parts;
+            push_unnamed(&mut told, source, process, ins, b" is never read")?;
+            push_unnamed(&mut told, source, process, outs, b" is never written")?;
+        }
+        push_rings(alloc, &mut told, source, members.as_slice())?;
+    }
     push_unbalanced(alloc, &mut told, source, &tree, members.as_slice())?;
     Ok(told)
 }
@@ -117,11 +124,9 @@ fn members_of<'d, 'a>(
 
 // The number of the member that writes a channel.
 fn writer_of(members: &[Member<'_, '_>], channel: &[u8]) -> Option<usize> {
-    members.iter().position(|member| member
-        .instance
-        .outs
+    members
         .iter()
-        .any(|name| name.bytes == channel))
+        .position(|member| place_of(&member.instance.outs, channel).is_some())
 }
 
 // The channel at a port among these.
@@ -134,45 +139,86 @@ fn channel_at<'d, 'a>(
     channels.get(number)
 }
 
-// The channel that a member reads before all else.
-fn first_channel<'d, 'a>(member: Member<'d, 'a>) -> Option<&'d Identifier<'a>> {
-    match first_move(&member.process.body) {
-        FirstMove::Reads(port) => {
-            channel_at(&member.process.parts.ins, &member.instance.ins, port)
-        }
-        _ => None,
-    }
+// A channel that a member reads before it writes, and the member that writes there.
+#[derive(Clone, Copy)]
+struct Need<'d, 'a> {
+    channel: &'d Identifier<'a>,
+    writer: usize,
 }
 
-// Adds each ring of members of which each first reads an item of the next.
+// What a member needs of others before it writes.
+fn needs_of<'d, 'a>(
+    alloc: Global,
+    members: &[Member<'d, 'a>],
+    member: Member<'d, 'a>,
+) -> Result<Vec<Need<'d, 'a>>, AllocError> {
+    let Member { instance, process } = member;
+    let mut ports = Vec::new(alloc);
+    add_first_reads(alloc, &process.body, &mut ports)?;
+    let mut needs = Vec::new(alloc);
+    for port in &ports {
+        if let Some(channel) = channel_at(&process.parts.ins, &instance.ins, port) {
+            if let Some(writer) = writer_of(members, channel.bytes) {
+                needs.push(Need { channel, writer })?;
+            }
+        }
+    }
+    Ok(needs)
+}
+
+// For each member that never comes to write what it needs of another such member.
+fn lasting_needs<'d, 'a>(
+    alloc: Global,
+    members: &[Member<'d, 'a>],
+) -> Result<Vec<Option<Need<'d, 'a>>>, AllocError> {
+    let mut needs = Vec::new(alloc);
+    let mut lasting = Vec::new(alloc);
+    for member in members {
+        let found = needs_of(alloc, members, *member)?;
+        lasting.push(found.first().copied())?;
+        needs.push(found)?;
+    }
+    for _round in 0..members.len() {
+        for (p, found) in needs.as_slice().iter().enumerate() {
+            let kept = found
+                .iter()
+                .find(|need| lasting_of(&lasting, need.writer).is_some())
+                .copied();
+            if p < lasting.len() {
+                lasting[p] = kept;
+            }
+        }
+    }
+    Ok(lasting)
+}
+
+fn lasting_of<'d, 'a>(lasting: &[Option<Need<'d, 'a>>], p: usize) -> Option<Need<'d, 'a>> {
+    lasting.get(p).copied().unwrap_or(None)
+}
+
+// Adds each ring of members of which each reads an item of the next before it writes.
 fn push_rings(
     alloc: Global,
     told: &mut Vec<u8>,
     source: Described<'_>,
     members: &[Member<'_, '_>],
 ) -> Result<(), AllocError> {
-    let mut next = Vec::new(alloc);
-    for member in members {
-        next.push(match first_channel(*member) {
-            Some(channel) => writer_of(members, channel.bytes),
-            None => None,
-        })?;
-    }
+    let lasting = lasting_needs(alloc, members)?;
     for start in 0..members.len() {
-        if begins_ring(next.as_slice(), start) {
-            push_ring(told, source, members, next.as_slice(), start)?;
+        if begins_ring(lasting.as_slice(), start) {
+            push_ring(told, source, members, lasting.as_slice(), start)?;
         }
     }
     Ok(())
 }
 
 // Whether a member stands in a ring, and is the first of it in order of number.
-fn begins_ring(next: &[Option<usize>], start: usize) -> bool {
+fn begins_ring(lasting: &[Option<Need<'_, '_>>], start: usize) -> bool {
     let mut at = start;
-    for _turn in 0..next.len() {
-        match next.get(at).copied().unwrap_or(None) {
-            Some(after) if after == start => return true,
-            Some(after) if after > start => at = after,
+    for _turn in 0..lasting.len() {
+        match lasting_of(lasting, at) {
+            Some(need) if need.writer == start => return true,
+            Some(need) if need.writer > start => at = need.writer,
             _ => return false,
         }
     }
@@ -183,12 +229,12 @@ fn push_ring(
     told: &mut Vec<u8>,
     source: Described<'_>,
     members: &[Member<'_, '_>],
-    next: &[Option<usize>],
+    lasting: &[Option<Need<'_, '_>>],
     start: usize,
 ) -> Result<(), AllocError> {
     let mut at = start;
     for turn in 0..members.len() {
-        let Some(member) = members.get(at).copied() else {
+        let (Some(member), Some(need)) = (members.get(at).copied(), lasting_of(lasting, at)) else {
             break;
         };
         let instance = member.instance;
@@ -198,13 +244,12 @@ fn push_ring(
             told.extend_from_slice(b", ")?;
             push_name(told, instance.name.bytes)?;
         }
-        if let Some(channel) = first_channel(member) {
-            told.extend_from_slice(b" first reads ")?;
-            push_name(told, channel.bytes)?;
-        }
-        match next.get(at).copied().unwrap_or(None) {
-            Some(after) if after != start => at = after,
-            _ => break,
+        told.extend_from_slice(b" reads ")?;
+        push_name(told, need.channel.bytes)?;
+        told.extend_from_slice(b" before it writes")?;
+        at = need.writer;
+        if at == start {
+            break;
         }
     }
     told.extend_from_slice(b": a ring from the start. One of them has to write before it reads.\n")
@@ -218,42 +263,85 @@ fn push_unbalanced(
     tree: &Description<'_>,
     members: &[Member<'_, '_>],
 ) -> Result<(), AllocError> {
+    let turns = turns_of(alloc, members)?;
     let mut links = Vec::new(alloc);
     let mut names = Vec::new(alloc);
     for item in &tree.network.items {
         if let Item::Channel(name, _) = item {
-            if let Some(link) = link_of(members, name.bytes) {
+            if let Some(link) = link_of(members, turns.as_slice(), name.bytes) {
                 links.push(link)?;
                 names.push(name)?;
             }
         }
     }
-    let Some(at) = first_unbalanced(alloc, links.as_slice(), members.len())? else {
+    let Some((at, ratio)) = first_unbalanced(alloc, links.as_slice(), members.len())? else {
         return Ok(());
     };
-    if let Some(name) = names.as_slice().get(at).copied() {
-        push_named(told, source, name)?;
-        told.extend_from_slice(UNBALANCED)?;
-    }
-    Ok(())
+    let (Some(name), Some(link)) = (names.as_slice().get(at).copied(), links.as_slice().get(at)) else {
+        return Ok(());
+    };
+    push_named(told, source, name)?;
+    told.extend_from_slice(b" can't balance: by the other channels ")?;
+    push_member(told, members, link.writer)?;
+    told.extend_from_slice(b" puts ")?;
+    push_items(told, ratio.over)?;
+    told.extend_from_slice(b" there where ")?;
+    push_member(told, members, link.reader)?;
+    told.extend_from_slice(b" gets ")?;
+    push_items(told, ratio.under)?;
+    told.extend_from_slice(b"\n")
 }
 
-const UNBALANCED: &[u8] =
-    b" can't balance: by the other channels its writer puts more or fewer items there than its reader gets.\n";
+// Adds the name of a member between backticks.
+fn push_member(told: &mut Vec<u8>, members: &[Member<'_, '_>], p: usize) -> Result<(), AllocError> {
+    match members.get(p).copied() {
+        Some(member) => push_name(told, member.instance.name.bytes),
+        None => Ok(()),
+    }
+}
+
+// Adds how many items there are.
+fn push_items(told: &mut Vec<u8>, count: u64) -> Result<(), AllocError> {
+    let mut digits = Buffer::new();
+    told.extend_from_slice(digits.format(count).as_bytes())?;
+    told.extend_from_slice(if count == 1 { b" item" } else { b" items" })
+}
+
+// For each member how many items a turn of its loop moves at its ports; nothing if that is not known.
+fn turns_of(alloc: Global, members: &[Member<'_, '_>]) -> Result<Vec<Vec<u64>>, AllocError> {
+    let mut turns = Vec::new(alloc);
+    for member in members {
+        let mut pars = Vec::new(alloc);
+        for value in &member.instance.values {
+            pars.push(match value {
+                Literal::Plain(number) => number.value(),
+                Literal::Negated(number) => number.value().wrapping_neg(),
+            })?;
+        }
+        turns.push(match moved_in_turn(alloc, member.process, pars.as_slice()) {
+            Ok(moved) => moved,
+            Err(_) => Vec::new(alloc),
+        })?;
+    }
+    Ok(turns)
+}
 
 // The ends of a channel, and how many items each moves there in a turn of its loop, if that is known and not 0.
-fn link_of(members: &[Member<'_, '_>], channel: &[u8]) -> Option<RatedChannel> {
+fn link_of(
+    members: &[Member<'_, '_>],
+    turns: &[Vec<u64>],
+    channel: &[u8],
+) -> Option<RatedChannel> {
     let writer = writer_of(members, channel)?;
-    let reader = members.iter().position(|member| member
-        .instance
-        .ins
+    let reader = members
         .iter()
-        .any(|name| name.bytes == channel))?;
+        .position(|member| place_of(&member.instance.ins, channel).is_some())?;
     let (puts, gets) = (members.get(writer)?, members.get(reader)?);
-    let out = port_of(&puts.process.parts.outs, &puts.instance.outs, channel)?;
-    let into = port_of(&gets.process.parts.ins, &gets.instance.ins, channel)?;
-    let put = moved_each_turn(&puts.process.body, out)?;
-    let got = moved_each_turn(&gets.process.body, into)?;
+    let out = place_of(&puts.instance.outs, channel)?;
+    let into = place_of(&gets.instance.ins, channel)?;
+    let before = puts.process.parts.ins.len();
+    let put = turns.get(writer)?.get(before.checked_add(out)?).copied()?;
+    let got = turns.get(reader)?.get(into).copied()?;
     if put == 0 || got == 0 {
         return None;
     }
@@ -265,12 +353,7 @@ fn link_of(members: &[Member<'_, '_>], channel: &[u8]) -> Option<RatedChannel> {
     })
 }
 
-// The port that a channel is given to.
-fn port_of<'a>(
-    ports: &[Identifier<'a>],
-    channels: &[Identifier<'_>],
-    channel: &[u8],
-) -> Option<&'a [u8]> {
-    let number = channels.iter().position(|name| name.bytes == channel)?;
-    Some(ports.get(number)?.bytes)
+// The place of a channel among these.
+fn place_of(channels: &[Identifier<'_>], channel: &[u8]) -> Option<usize> {
+    channels.iter().position(|name| name.bytes == channel)
 }

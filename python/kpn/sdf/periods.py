@@ -7,10 +7,11 @@ from __future__ import annotations
 
 from typing import TYPE_CHECKING, Any, Dict, List, Mapping, NamedTuple, Optional, Sequence, Set, Tuple, Type
 
-from ..errors import LARGEST, KpnError
-from ..language import INDEX, Assign, Entry, Expression, Read, Reader, Write
+from ..errors import KpnError
+from ..language import Assign, Entry, Read, Reader, Write
 from ..native.paths import End, Leave, Rows, Test, rows_of
 from ..native.regions import used_in
+from ..values import Unknown, value_of, value_or_none
 
 if TYPE_CHECKING:
     from ..network import Network
@@ -24,63 +25,6 @@ class Period(NamedTuple):
 
     before: List[Tuple[str, bool]]
     period: List[Tuple[str, bool]]
-
-
-class Unknown(Exception):
-    """A test depends on an item, or on a cell."""
-
-
-def divided(a: int, b: int) -> Tuple[int, int]:
-    """The quotient and the remainder of the language, which rounds towards 0."""
-    if b == 0:
-        raise Unknown
-    quotient = abs(a) // abs(b) * (1 if (a < 0) == (b < 0) else -1)
-    return quotient, a - quotient * b
-
-
-def shifted(a: int, b: int) -> int:
-    """A shift by a count of 0 to 63."""
-    if not 0 <= b <= 63:
-        raise Unknown
-    return a << b
-
-
-BINARY: Dict[str, Any] = {
-    '+': int.__add__, '-': int.__sub__, '*': int.__mul__, '&': int.__and__, '|': int.__or__, '^': int.__xor__,
-    '/': lambda a, b: divided(a, b)[0], '%': lambda a, b: divided(a, b)[1], '<<': shifted,
-    '>>': lambda a, b: a // shifted(1, b), '<': lambda a, b: int(a < b), '<=': lambda a, b: int(a <= b),
-    '>': lambda a, b: int(a > b), '>=': lambda a, b: int(a >= b), '==': lambda a, b: int(a == b),
-    '!=': lambda a, b: int(a != b),
-}
-UNARY: Dict[str, Any] = {'-': int.__neg__, '!': lambda a: int(not a), '~': int.__invert__}
-
-
-def value_of(tree: Expression, known: Dict[str, Optional[int]], tables: Mapping[str, Sequence[int]]) -> int:
-    """The value of an expression. Raises Unknown if it depends on what is not known, or is a fault."""
-    if isinstance(tree, int):
-        return tree
-    if isinstance(tree, str):
-        value = known.get(tree, 0)
-        if value is None:
-            raise Unknown
-        return value
-    mark, *sides = tree
-    if mark == INDEX:
-        place = value_of(sides[1], known, tables)
-        if sides[0] not in tables or place not in range(len(tables[str(sides[0])])):
-            raise Unknown
-        return tables[str(sides[0])][place]
-    first = value_of(sides[0], known, tables)
-    if mark == '?':
-        return value_of(sides[1 if first else 2], known, tables)
-    if len(sides) == 1:
-        return int(UNARY[mark](first))
-    if mark in ('&&', '||'):
-        return int(first != 0) if bool(first) == (mark == '||') else int(value_of(sides[1], known, tables) != 0)
-    value = int(BINARY[mark](first, value_of(sides[1], known, tables)))
-    if not -LARGEST - 1 <= value <= LARGEST:
-        raise Unknown
-    return value
 
 
 def deciding(rows: Rows) -> Set[str]:
@@ -122,15 +66,6 @@ def period_of(rows: Rows, values: Sequence[int]) -> Period:
         elif isinstance(row, Assign) and row.target in names:
             known[row.target] = value_or_none(row.value, known, tables)
     raise Unknown
-
-
-def value_or_none(tree: Expression, known: Dict[str, Optional[int]], tables: Mapping[str, Sequence[int]]
-                  ) -> Optional[int]:
-    """The value of an expression, if it is known."""
-    try:
-        return value_of(tree, known, tables)
-    except Unknown:
-        return None
 
 
 def shortest(period: List[Tuple[str, bool]]) -> List[Tuple[str, bool]]:
