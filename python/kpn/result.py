@@ -131,6 +131,8 @@ class Result(collections.abc.Mapping):  # type: ignore[type-arg]
         self._folder: Optional[Folder] = None
         self._trace: Optional[str] = None
         self._tables: Optional[Dict[str, Any]] = None
+        # The places of faults that a run has told.
+        self._places: Dict[str, Fault] = {}
         self._look: Optional[Look] = None
         # Of a live run, the tables that it has told.
         self._counted: Optional[Stats] = None
@@ -229,7 +231,7 @@ class Result(collections.abc.Mapping):  # type: ignore[type-arg]
         if self.outcome != 'enough' and self.deadlock:
             raise deadlock_of(self.deadlock, self._layout, reasons)
         if reasons:
-            raise KpnError(reasons, place=next((it.place for it in self._known_faults().values()), None))
+            raise KpnError(reasons, place=next((it.place for it in self.fault_places.values()), None))
         for it in (it for it in self._rates() if it.grows):
             how = '' if self._trace else ', in a short run on the first items'
             warnings.warn(f'the channel `{it.channel}` grows with the length of the run: `{it.writer}` put {it.put} '
@@ -248,15 +250,11 @@ class Result(collections.abc.Mapping):  # type: ignore[type-arg]
             LOOKS[text] = look(self._layout, self._look, self._program)
         return LOOKS.get(text, [])
 
-    def _known_faults(self) -> Dict[str, Fault]:
-        """The faults with their places, as far as these are known."""
-        return self.fault_places if self.faults and self._trace else {}
-
     def _reasons(self) -> str:
         """What is wrong: faults, sinks that may lack items, and who waits for room; nothing if all is right."""
-        told = self._known_faults()
+        told = self.fault_places
         more = '' if self._trace or self._told is not None else ' (a run with `trace=True` tells where)'
-        reasons = [f'`{name}` ended by a fault: {told.get(name, fault)}{more}' for name, fault in self.faults.items()]
+        reasons = [f'`{name}` ended by a fault: {told.get(name, fault + more)}' for name, fault in self.faults.items()]
         reasons += [f'the sink `{name}` is {"not" if known is False else "perhaps not"} complete'
                     for name, known in self.complete.items()
                     if not known and (self.outcome != 'enough' or name in self._left)]
@@ -272,9 +270,12 @@ class Result(collections.abc.Mapping):  # type: ignore[type-arg]
     def fault_places(self) -> Dict[str, Fault]:
         """For each instance that a fault ended a `Fault`: its word, the place, the expression and the values there.
 
-        A process that takes more than a million statements up to its fault is left out.
+        A process that takes more than a million statements up to its fault is left out. Without a trace so is what a
+        run of a million commits does not come to, and a live run has none.
         """
-        return faults_of(self.faults, self._layout, self._asked('explain').stderr)
+        if self._trace and self.faults.keys() - self._places.keys():
+            self.keep_places(self._asked('explain').stderr)
+        return self._places
 
     def trace(self) -> Trace:
         """The events of the run, with names: a `Trace` to loop over."""
@@ -446,6 +447,10 @@ class Result(collections.abc.Mapping):  # type: ignore[type-arg]
     def keep(self, folder: Folder, trace: str) -> None:
         """Keeps the folder with the text, and the file of the trace, if it is not there."""
         self._folder, self._trace = folder, trace
+
+    def keep_places(self, told: str) -> None:
+        """Keeps the places of faults that the program has told."""
+        self._places = faults_of(self.faults, self._layout, told)
 
     def keep_counted(self, tables: Stats) -> None:
         """Keeps the tables that a live run has told."""

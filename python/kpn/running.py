@@ -149,6 +149,7 @@ def result_of(done: subprocess.CompletedProcess[str], layout: Layout, folder: st
         raise KpnError(f'{find_program(how.program)} has told no outcome: it is not the program `kpn`')
     sinks = {name: as_given(items_of(pathlib.Path(folder, f'{name}.sink').read_bytes())) for name in layout.sinks}
     result = Result(layout, report, sinks, how.program, most=how.most)
+    result.keep_places(done.stderr)
     judged = CERTIFIED.search(done.stderr)
     result.certified = judged[1] if judged else None
     return result

@@ -149,11 +149,11 @@ class Outcomes(unittest.TestCase):
     def test_a_fault(self):
         result = doubling().run([1, 2**62, 3])
         self.assertEqual((result['y'], result.faults, result.complete), ([2], {'gain': 'overflow'}, {'y': True}))
-        with self.assertRaisesRegex(kpn.KpnError, '`gain` ended by a fault: overflow .a run with `trace=True`'):
+        with self.assertRaisesRegex(kpn.KpnError, '`gain` ended by a fault: overflow in `x . k` .process `gain`, line'):
             result.check()
 
     def test_where_a_fault_was(self):
-        """With a trace it has the place in the text of the process, the expression and the values in it."""
+        """It has the place in the text of the process, the expression and the values in it."""
         text = 'language 2; table t = 5, -1; process p(in i, j; out o; par k) {\n  array a[3]; while 1 {\n' \
             '    read i x;\n    read j y; a[x & 1] = y;\n    if (y) == 0 { } else { if x { write o %s; } } } }'
         for expression, items, column, said in (
@@ -167,8 +167,9 @@ class Outcomes(unittest.TestCase):
             said %= f'process `p`, line 5, column {column}'
             net = kpn.Network()
             net.sink('z', kpn.Process.from_text(text % expression)(net.source('s'), net.source('t'), 9))
-            result = net.run(dict(zip('st', items)), trace=True)
-            self.assertEqual(str(result.fault_places['p']), said)
+            for trace in (False, True):
+                result = net.run(dict(zip('st', items)), trace=trace)
+                self.assertEqual(str(result.fault_places['p']), said)
             with self.assertRaisesRegex(kpn.KpnError, re.escape(f'`p` ended by a fault: {said}')) as caught:
                 result.check()
             self.assertEqual(caught.exception.place, ('process `p`', 5, column))
@@ -180,8 +181,9 @@ class Outcomes(unittest.TestCase):
             net = kpn.Network()
             net.sink('z', kpn.Process.from_text(long)(net.source('s')))
             self.assertEqual(list(net.run([steps], trace=True).fault_places), places)
-        self.assertEqual(doubling().run([1], trace=True).fault_places, {})
-        self.assertRaisesRegex(kpn.KpnError, 'give `trace=True`', lambda: doubling().run([2**62]).fault_places)
+        result = net.run([steps])
+        self.assertEqual((doubling().run([1], trace=True).fault_places, result.fault_places), ({}, {}))
+        self.assertRaisesRegex(kpn.KpnError, 'ended by a fault: zero-divisor .a run with `trace=True`', result.check)
 
     def test_complete_is_what_stats_says(self):
         for name in 'clogged unclogged deadlock two jammed doubling fault kahn moving_average'.split():

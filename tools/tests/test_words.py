@@ -197,17 +197,19 @@ class Words(unittest.TestCase):
     def test_the_variable_of_the_environment(self):
         line, said = 'kpn: 26 Read\n', "`none` can't be read: there is no such file\n"
         for value, words, told in (('always', [], line + said), ('never', [], line), ('often', [], line),
-                                   ('always', ['--words', 'never'], line), ('never', ['--words', 'always'], line + said)):
+                                   ('always', ['--words', 'never'], line),
+                                   ('never', ['--words', 'always'], line + said)):
             self.assertEqual(self.told(*words, 'check', 'none', status=1, KPN_WORDS=value), told)
 
     def test_the_place_of_a_fault_of_any_stream(self):
         """A trace has the items of samples and of a pipe."""
         for given, options in (('\x02\0', ['--format', 's=u8']), ('2\n0\n', [])):
-            said = self.behind('stream', 'divide.kpn', *options, '--trace', 't', status=8, given=given)
+            words = ['--words', 'always', 'stream', 'divide.kpn', *options, '--trace', 't']
+            said = self.told(*words, status=8, given=given)
             self.assertNotIn('divide.kpn:', said)
             self.assertIn('says where it was', said)
             self.assertTrue(self.behind('explain', 'divide.kpn', 't', status=0).startswith(
-                'divide.kpn:1:61: `d` ended at `100 / x`, where x = 0\n'))
+                'divide.kpn:1:63: `d` ended at `100 / x`, where x = 0\n'))
 
     def told_on_a_terminal(self, *words, status):
         """The same, if standard error is a terminal."""

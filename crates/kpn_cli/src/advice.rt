@@ -11,7 +11,7 @@ use crate::stopped::{push_looks, push_others};
 use crate::waits::waits_in;
 use crate::words::Evidence;
 use kpn_command_base::{EndKind, RunRequest, StreamRequest};
-use kpn_command_explain::{Warnings, warnings_text};
+use kpn_command_explain::{balance_text, warnings_text};
 use kpn_command_line::Request;
 use kpn_shelf::{STANDARD, Shelf};
 use kpn_text::Document;
@@ -54,7 +54,7 @@ pub(crate) fn push_advice<R: Files, S: Shelf>(
         Request::Run(run) => {
             let document = evidence.plain_document(run.file);
             push_outcome(text, status)?;
-            push_warnings(text, run.file, Warnings::Balance, evidence)?;
+            push_warnings(text, run.file, true, evidence)?;
             match &document {
                 Some(document) => push_run(text, run, document, status, evidence),
                 None => Ok(()),
@@ -64,7 +64,7 @@ pub(crate) fn push_advice<R: Files, S: Shelf>(
             let document = evidence.plain_document(stream.file);
             push_outcome(text, status)?;
             if !stream.quiet {
-                push_warnings(text, stream.file, Warnings::Balance, evidence)?;
+                push_warnings(text, stream.file, true, evidence)?;
             }
             match &document {
                 Some(document) => {
@@ -74,7 +74,7 @@ pub(crate) fn push_advice<R: Files, S: Shelf>(
                 None => Ok(()),
             }
         }
-        Request::Check(file) if status == 0 => push_warnings(text, file, Warnings::All, evidence),
+        Request::Check(file) if status == 0 => push_warnings(text, file, false, evidence),
         Request::Explain {
             file,
             trace: Some(trace),
@@ -85,11 +85,11 @@ pub(crate) fn push_advice<R: Files, S: Shelf>(
     }
 }
 
-// Adds what may be meant otherwise in a description that is right.
+// Adds what may be meant otherwise in a description that is right; of one that has run only what can't balance.
 fn push_warnings<R: Files, S: Shelf>(
     text: &mut Vec<u8>,
     file: &str,
-    wanted: Warnings,
+    has_run: bool,
     evidence: &Evidence<'_, R, S>,
 ) -> Result<(), AllocError> {
     if !is_plain(evidence.rt, file) {
@@ -98,7 +98,11 @@ fn push_warnings<R: Files, S: Shelf>(
     let Ok(bytes) = evidence.shelf.load(evidence.alloc, file) else {
         return Ok(());
     };
-    let told = warnings_text(evidence.alloc, file, &bytes, wanted)?;
+    let told = if has_run {
+        balance_text(evidence.alloc, file, &bytes)?
+    } else {
+        warnings_text(evidence.alloc, file, &bytes)?
+    };
     text.extend_from_slice(&told)
 }
 

@@ -242,6 +242,15 @@ impl<'t> FaultFrame<'t> {
         Ok(())
     }
 
+    /// The values of all variables that were set, as far as they are known.
+    pub(crate) fn known_values(&self) -> Result<Vec<Option<i64>>, AllocError> {
+        let mut values = Vec::new(self.alloc);
+        for variable in self.variables.as_slice() {
+            values.push(variable.value)?;
+        }
+        Ok(values)
+    }
+
     fn next_item(&mut self, name: &[u8]) -> Result<i64, Stuck> {
         for port in self.ports.as_mut_slice() {
             if port.name == name {

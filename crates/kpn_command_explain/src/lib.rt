@@ -45,4 +45,4 @@ pub use fault_words::{GottenItems, fault_text, traced_faults_text};
 pub use items::{bad_line_text, explain_items_command};
 pub use settings::{SettingLines, setting_lines};
 pub use trace::explain_trace_command;
-pub use warnings::{Warnings, warnings_text};
+pub use warnings::{balance_text, warnings_text};

@@ -1,4 +1,5 @@
-//! How many items a turn of the endless loop that ends a process moves at each of its ports, if that depends on no item.
+//! How many items the endless loop that ends a process moves at each of its ports in a period, if that depends on no
+//! item: in one turn, or in several after which its variables are as before.
 
 use crate::fault_frame::{FaultFrame, Stuck};
 use crate::first_moves::is_endless;
@@ -6,7 +7,7 @@ use kpn_text_grammar::{Identifier, ProcessNode, StatementNode};
 use std::alloc::{AllocError, Global};
 use std::mem;
 
-// The most statements, a hundredth of a second of work.
+// The most statements, some thousandths of a second of work.
 const MOST_STATEMENTS: u32 = 10_000;
 
 // A process whose statements are made without items: what depends on one is not known.
@@ -20,8 +21,8 @@ struct Turn<'t> {
     left: u32,
 }
 
-/// The items that a turn moves at each in port, and then at each out port.
-pub(crate) fn moved_in_turn(
+/// The items that a period moves at each in port, and then at each out port.
+pub(crate) fn moved_in_period(
     alloc: Global,
     process: &ProcessNode<'_>,
     pars: &[i64],
@@ -33,33 +34,78 @@ pub(crate) fn moved_in_turn(
     if !is_endless(test) {
         return Err(Stuck::Lost);
     }
-    let mut turn = Turn {
-        alloc,
-        frame: FaultFrame::without_items(alloc, process, pars)?,
-        ports: Vec::new(alloc),
-        moved: Vec::new(alloc),
-        left: MOST_STATEMENTS,
-    };
-    turn.add_ports(&process.parts.ins)?;
-    turn.add_ports(&process.parts.outs)?;
-    let none = turn.moved.to_vec(alloc)?;
     let before = statements.get(..statements.len().saturating_sub(1)).unwrap_or(&[]);
-    if turn.make_block(before).is_err() {
-        turn.forget(before)?;
-    }
+    let mut turn = Turn::start(alloc, process, pars, before)?;
     turn.forget(body)?;
-    drop(mem::replace(&mut turn.moved, none));
-    turn.make_block(body)?;
-    Ok(turn.moved.to_vec(alloc)?)
+    let start = turn.moved.to_vec(alloc)?;
+    if turn.make_block(body).is_ok() {
+        return Ok(turn.moved_since(&start)?);
+    }
+    let mut again = Turn::start(alloc, process, pars, before)?;
+    again.make_period(body)
 }
 
 impl<'t> Turn<'t> {
+    // What is known at the end loop, which stands behind these statements.
+    fn start(
+        alloc: Global,
+        process: &ProcessNode<'t>,
+        pars: &[i64],
+        before: &[StatementNode<'t>],
+    ) -> Result<Turn<'t>, Stuck> {
+        let mut turn = Turn {
+            alloc,
+            frame: FaultFrame::without_items(alloc, process, pars)?,
+            ports: Vec::new(alloc),
+            moved: Vec::new(alloc),
+            left: MOST_STATEMENTS,
+        };
+        turn.add_ports(&process.parts.ins)?;
+        turn.add_ports(&process.parts.outs)?;
+        if turn.make_block(before).is_err() {
+            turn.forget(before)?;
+        }
+        Ok(turn)
+    }
+
     fn add_ports(&mut self, ports: &[Identifier<'t>]) -> Result<(), AllocError> {
         for port in ports {
             self.ports.push(port.bytes)?;
             self.moved.push(0)?;
         }
         Ok(())
+    }
+
+    // Makes turns of a loop until the variables are as they were before one of them: before the first, the second, the
+    // fourth, the eighth and so on. It returns what was moved since.
+    fn make_period(&mut self, body: &[StatementNode<'t>]) -> Result<Vec<u64>, Stuck> {
+        let mut values = self.frame.known_values()?;
+        let mut moved = self.moved.to_vec(self.alloc)?;
+        let (mut turns, mut most) = (0u32, 1u32);
+        for _turn in 0..MOST_STATEMENTS {
+            self.make_block(body)?;
+            self.spend()?;
+            let now = self.frame.known_values()?;
+            if now.as_slice() == values.as_slice() {
+                return Ok(self.moved_since(&moved)?);
+            }
+            turns = turns.saturating_add(1);
+            if turns == most {
+                values = now;
+                moved = self.moved.to_vec(self.alloc)?;
+                turns = 0;
+                most = most.saturating_mul(2);
+            }
+        }
+        Err(Stuck::Lost)
+    }
+
+    fn moved_since(&self, before: &[u64]) -> Result<Vec<u64>, AllocError> {
+        let mut since = Vec::new(self.alloc);
+        for (moved, before) in self.moved.iter().zip(before) {
+            since.push(moved.saturating_sub(*before))?;
+        }
+        Ok(since)
     }
 
     #[cycle(turn)]

@@ -4,7 +4,7 @@
 use crate::excerpt::push_where;
 use crate::first_moves::{add_first_reads, names_port};
 use crate::ratios::{RatedChannel, first_unbalanced};
-use crate::turns::moved_in_turn;
+use crate::turns::moved_in_period;
 use itoa::Buffer;
 use kpn_text::{TextFault, meant_tokens};
 use kpn_text_grammar::{
@@ -28,16 +28,25 @@ struct Member<'d, 'a> {
     process: &'d ProcessNode<'a>,
 }
 
-/// What is told of a right description.
+// What is told of a right description.
 #[derive(Clone, Copy, PartialEq)]
-pub enum Warnings {
+enum Warnings {
     All,
-    /// Only which channel can't balance.
+    // Only which channel can't balance.
     Balance,
 }
 
 /// A line for each thing of a right description that may be meant otherwise.
-pub fn warnings_text(
+pub fn warnings_text(alloc: Global, file: &str, text: &[u8]) -> Result<Vec<u8>, AllocError> {
+    warnings_of(alloc, file, text, Warnings::All)
+}
+
+/// The line of them that tells a channel which can't balance, if there is one.
+pub fn balance_text(alloc: Global, file: &str, text: &[u8]) -> Result<Vec<u8>, AllocError> {
+    warnings_of(alloc, file, text, Warnings::Balance)
+}
+
+fn warnings_of(
     alloc: Global,
     file: &str,
     text: &[u8],
@@ -318,7 +327,7 @@ fn turns_of(alloc: Global, members: &[Member<'_, '_>]) -> Result<Vec<Vec<u64>>, 
                 Literal::Negated(number) => number.value().wrapping_neg(),
             })?;
         }
-        turns.push(match moved_in_turn(alloc, member.process, pars.as_slice()) {
+        turns.push(match moved_in_period(alloc, member.process, pars.as_slice()) {
             Ok(moved) => moved,
             Err(_) => Vec::new(alloc),
         })?;
