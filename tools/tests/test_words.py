@@ -32,6 +32,61 @@ network {
   c = copy(s; a); loop = spin(a; z); n = ones(; one); e = eat(one;);
 }
 '''
+# What new users write: an echo that is one sample too long, a controller without a first item, rates that differ, a
+# text of other habits, and a chain of which one process computes.
+LONG_ECHO = '''language 2;
+process echo(in dry; out wet; par delay) {
+  array line[4];
+  while 1 {
+    read dry x;
+    y = x + line[at] / 2;
+    line[at] = y;
+    at = at + 1;
+    if at > delay { at = 0; }
+    write wet y;
+  }
+}
+network { source mic; channel mid cap 8; sink ear cap 8; first = echo(mic; mid; 3); second = echo(mid; ear; 4); }
+'''
+ROOM = '''process room(in power; out heat) { t = 1500; while 1 { read power p; t = (t + (p / 10)); write heat t; } }
+process control(in wanted, heat; out power, shown) {
+  while 1 { read wanted w; read heat t; write power ((w - t) * 2); write shown t; }
+}
+network {
+  source wanted; channel power cap 1; channel heat cap 1; sink shown cap 1;
+  r = room(power; heat); c = control(wanted, heat; power, shown);
+}
+'''
+STEREO = '''language 2;
+process split(in both; out left, right) { while 1 { read both x; write left x; read both x; write right x; } }
+process halve(in i; out o) { while 1 { read i x; read i y; write o (x + y) / 2; } }
+process mix(in l, r; out o) { while 1 { read l x; read r y; write o (x + y) / 2; } }
+network {
+  source song; channel left cap 4; channel right cap 4; channel half cap 4; sink mono cap 1;
+  s = split(song; left, right); h = halve(left; half); m = mix(half, right; mono);
+}
+'''
+PRICES = '''// means of n prices
+process means(in price; out mean; par n) {
+  int sum = 0;
+  while 1 {
+    sum = 0; k = 0;
+    while (k < n) { read price p; sum = sum + p; k = (k + 1); }
+    write mean (sum / n);
+  }
+}
+network { source price; sink mean cap 1; m = means(price, mean, 3); }
+'''
+# Each change that the screen advises: its words, and what is written in place of what.
+PRICES_ADVICE = [
+    ('A comment begins with `#`', '//', '#'), ('with no word before it', 'int sum', 'sum'),
+    ('Parenthesize each operator with two sides', 'sum + p', '(sum + p)'),
+    ('the values of an instance stand between `;`', 'price, mean, 3', 'price; mean; 3')]
+ROOTS = '''language 2;
+process gradient(in i; out o) { while 1 { read i x; write o x - last; last = x; } }
+process root(in i; out o) { while 1 { read i x; s = 0; while s * s < x * x { s = s + 1; } write o s; } }
+network { source s; channel d cap 1; sink z cap 1; g = gradient(s; d); r = root(d; z); }
+'''
 
 
 class Words(unittest.TestCase):
@@ -39,7 +94,9 @@ class Words(unittest.TestCase):
         folder = tempfile.TemporaryDirectory()
         self.addCleanup(folder.cleanup)
         self.folder = pathlib.Path(folder.name)
-        for name, text in (('copy.kpn', COPY + 'network { source s; sink z cap 1; c = copy(s; z); }\n'),
+        for name, text in (('long_echo.kpn', LONG_ECHO), ('room.kpn', ROOM), ('stereo.kpn', STEREO),
+                           ('prices.kpn', PRICES), ('roots.kpn', ROOTS),
+                           ('copy.kpn', COPY + 'network { source s; sink z cap 1; c = copy(s; z); }\n'),
                            ('wrong.kpn', COPY + 'network { source s; sink z cap 1; c = copi(s; z); }\n'),
                            ('divide.kpn', DIVIDE), ('spin.kpn', SPIN), ('loop.kpn', LOOP), ('echo.kpn', ECHO),
                            ('items', '1\n2\n3\n'), ('bad', '1\n2x\n')):
@@ -193,6 +250,26 @@ class Words(unittest.TestCase):
         for words in (['--words'], ['--words', 'often', 'check', 'copy.kpn']):
             self.assertEqual(self.told(*words, status=2), usage)
         self.assertEqual(self.told('--words', 'never', 'check', 'copy.kpn', status=0), '')
+
+    def test_what_new_users_write(self):
+        (self.folder / 'many').write_text('900\n20\n' * 9)
+        said = self.behind('run', 'long_echo.kpn', '--source', 'mic=many', status=0)
+        self.assertIn('long_echo.kpn:6:13: `second` ended at `line[at]`, where at = 4, line has 4 cells\n', said)
+        self.assertIn('deadlock: r waits on power for c, c waits on heat for r; one of them has to write before',
+                      self.behind('run', 'room.kpn', '--source', 'wanted=many', status=0))
+        self.assertIn(': a ring from the start', self.behind('check', 'room.kpn', status=0))
+        said = ("stereo.kpn:6:65: `half` can't balance: by the other channels `h` puts 1 item there where `m` gets 2 "
+                'items\n')
+        self.assertEqual(self.behind('check', 'stereo.kpn', status=0), said)
+        self.assertEqual(self.behind('run', 'stereo.kpn', '--source', 'song=many', status=0), said)
+        file = self.folder / 'prices.kpn'
+        for advice, written, better in PRICES_ADVICE:
+            self.assertIn(advice, self.behind('check', 'prices.kpn', status=1))
+            file.write_text(file.read_text().replace(written, better))
+        self.assertEqual(self.behind('check', 'prices.kpn', status=0), '')
+        self.told('run', 'roots.kpn', '--source', 's=many', '--trace', 't', status=0)
+        done = subprocess.run([PROGRAM, 'stats', 'roots.kpn', 't'], cwd=self.folder, capture_output=True, text=True)
+        self.assertRegex(done.stdout, r'\nmost work by r \(\d+ steps\), g \(55 steps\)\n')
 
     def test_the_variable_of_the_environment(self):
         line, said = 'kpn: 26 Read\n', "`none` can't be read: there is no such file\n"
