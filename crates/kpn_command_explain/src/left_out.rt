@@ -6,7 +6,7 @@ use crate::spots::{TokenSpot, spot_at};
 use kpn_text_tokens::Lexeme;
 use std::alloc::{AllocError, Global};
 
-const PARTS: &[u8] =
+const INSTANCE_PARTS: &[u8] =
     b"The in channels, the out channels and the values of an instance stand between `;`: `g = gain(a; b; 2);`.";
 
 const BRACES: &[u8] = b"A block stands in braces: `if (x < y) { x = y; } else { }`, `while 1 { read i x; }`.";
@@ -24,7 +24,7 @@ pub(crate) fn help_if_left_out(
     let front = front(text, at);
     let spot = spot_at(tokens, at);
     if matches!(spot, TokenSpot::Reads | TokenSpot::Writes) && begins_value(back(text, at)) {
-        return Ok(Some(PARTS));
+        return Ok(Some(INSTANCE_PARTS));
     }
     if matches!(spot, TokenSpot::Target | TokenSpot::Variable) && may_stand(alloc, front, b"{")? {
         return Ok(Some(BRACES));

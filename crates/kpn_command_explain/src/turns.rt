@@ -12,7 +12,7 @@ const MOST_STATEMENTS: u32 = 10_000;
 
 // A process whose statements are made without items: what depends on one is not known.
 #[derive(Drop)]
-struct Turn<'t> {
+struct LoopTurn<'t> {
     alloc: Global,
     frame: FaultFrame<'t>,
     ports: Vec<&'t [u8]>,
@@ -35,25 +35,25 @@ pub(crate) fn moved_in_period(
         return Err(Stuck::Lost);
     }
     let before = statements.get(..statements.len().saturating_sub(1)).unwrap_or(&[]);
-    let mut turn = Turn::start(alloc, process, pars, before)?;
+    let mut turn = LoopTurn::start(alloc, process, pars, before)?;
     turn.forget(body)?;
     let start = turn.moved.to_vec(alloc)?;
     if turn.make_block(body).is_ok() {
         return Ok(turn.moved_since(&start)?);
     }
-    let mut again = Turn::start(alloc, process, pars, before)?;
+    let mut again = LoopTurn::start(alloc, process, pars, before)?;
     again.make_period(body)
 }
 
-impl<'t> Turn<'t> {
+impl<'t> LoopTurn<'t> {
     // What is known at the end loop, which stands behind these statements.
     fn start(
         alloc: Global,
         process: &ProcessNode<'t>,
         pars: &[i64],
         before: &[StatementNode<'t>],
-    ) -> Result<Turn<'t>, Stuck> {
-        let mut turn = Turn {
+    ) -> Result<LoopTurn<'t>, Stuck> {
+        let mut turn = LoopTurn {
             alloc,
             frame: FaultFrame::without_items(alloc, process, pars)?,
             ports: Vec::new(alloc),

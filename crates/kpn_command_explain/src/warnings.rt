@@ -150,7 +150,7 @@ fn channel_at<'d, 'a>(
 
 // A channel that a member reads before it writes, and the member that writes there.
 #[derive(Clone, Copy)]
-struct Need<'d, 'a> {
+struct FirstNeed<'d, 'a> {
     channel: &'d Identifier<'a>,
     writer: usize,
 }
@@ -160,7 +160,7 @@ fn needs_of<'d, 'a>(
     alloc: Global,
     members: &[Member<'d, 'a>],
     member: Member<'d, 'a>,
-) -> Result<Vec<Need<'d, 'a>>, AllocError> {
+) -> Result<Vec<FirstNeed<'d, 'a>>, AllocError> {
     let Member { instance, process } = member;
     let mut ports = Vec::new(alloc);
     add_first_reads(alloc, &process.body, &mut ports)?;
@@ -168,7 +168,7 @@ fn needs_of<'d, 'a>(
     for port in &ports {
         if let Some(channel) = channel_at(&process.parts.ins, &instance.ins, port) {
             if let Some(writer) = writer_of(members, channel.bytes) {
-                needs.push(Need { channel, writer })?;
+                needs.push(FirstNeed { channel, writer })?;
             }
         }
     }
@@ -179,7 +179,7 @@ fn needs_of<'d, 'a>(
 fn lasting_needs<'d, 'a>(
     alloc: Global,
     members: &[Member<'d, 'a>],
-) -> Result<Vec<Option<Need<'d, 'a>>>, AllocError> {
+) -> Result<Vec<Option<FirstNeed<'d, 'a>>>, AllocError> {
     let mut needs = Vec::new(alloc);
     let mut lasting = Vec::new(alloc);
     for member in members {
@@ -201,7 +201,7 @@ fn lasting_needs<'d, 'a>(
     Ok(lasting)
 }
 
-fn lasting_of<'d, 'a>(lasting: &[Option<Need<'d, 'a>>], p: usize) -> Option<Need<'d, 'a>> {
+fn lasting_of<'d, 'a>(lasting: &[Option<FirstNeed<'d, 'a>>], p: usize) -> Option<FirstNeed<'d, 'a>> {
     lasting.get(p).copied().unwrap_or(None)
 }
 
@@ -222,7 +222,7 @@ fn push_rings(
 }
 
 // Whether a member stands in a ring, and is the first of it in order of number.
-fn begins_ring(lasting: &[Option<Need<'_, '_>>], start: usize) -> bool {
+fn begins_ring(lasting: &[Option<FirstNeed<'_, '_>>], start: usize) -> bool {
     let mut at = start;
     for _turn in 0..lasting.len() {
         match lasting_of(lasting, at) {
@@ -238,7 +238,7 @@ fn push_ring(
     told: &mut Vec<u8>,
     source: Described<'_>,
     members: &[Member<'_, '_>],
-    lasting: &[Option<Need<'_, '_>>],
+    lasting: &[Option<FirstNeed<'_, '_>>],
     start: usize,
 ) -> Result<(), AllocError> {
     let mut at = start;
