@@ -1,4 +1,4 @@
-"""Where a fault has ended a process, and with which values, as `kpn explain` tells it of a trace."""
+"""Where a fault has ended a process, and with which values, as `kpn` tells it of a run and of a trace."""
 from __future__ import annotations
 
 import re
@@ -31,7 +31,7 @@ def faults_of(faults: Dict[str, str], layout: Layout, told: str) -> Dict[str, Fa
     """The faults of a run by their instances, with what is told of their places."""
     made = {}
     for found in map(TOLD.fullmatch, told.splitlines()):
-        if found:
+        if found and found[3] in faults:
             line, column, name, expression, values = found.groups()
             before = layout.text.splitlines(keepends=True)[:int(line) - 1]
             place = layout.spot_of(sum(map(len, before)) + int(column) - 1).place()

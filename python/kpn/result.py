@@ -450,7 +450,7 @@ class Result(collections.abc.Mapping):  # type: ignore[type-arg]
 
     def keep_places(self, told: str) -> None:
         """Keeps the places of faults that the program has told."""
-        self._places = faults_of(self.faults, self._layout, told)
+        self._places.update(faults_of(self.faults, self._layout, told))
 
     def keep_counted(self, tables: Stats) -> None:
         """Keeps the tables that a live run has told."""
