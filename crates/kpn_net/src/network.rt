@@ -157,7 +157,7 @@ impl Network {
         ensures refused { IfSome (channels_fault (tables_of parts)) (λ fault. result ≡ Err fault) }
         ensures made { IfNone (channels_fault (tables_of parts))
             (MatchResult result (λ network. network ≡ tables_of parts)
-                (λ fault. fault ≡ NetFault.NoMemory)) }
+            (λ fault. fault ≡ NetFault.NoMemory)) }
     {
         parts.count_ends(writers, readers);
         if let Some(fault) = parts.channels_fault(writers, readers) {
