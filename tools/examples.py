@@ -72,6 +72,8 @@ def expression(tree, language, least=1):
         return mark + expression(parts[0], language, rounds.OPERAND)
     if mark == '?':
         return '({} ? {} : {})'.format(*(expression(part, language) for part in parts))
+    if mark in rounds.CALLED:
+        return '{}({}, {})'.format(mark, *(expression(part, language) for part in parts))
     left, right = (expression(part, language, side) for part, side in zip(parts, rounds.sides(mark)))
     is_free = language == 2 and rounds.TIGHTNESS[mark] >= least
     return f'{left} {mark} {right}' if is_free else f'({left} {mark} {right})'

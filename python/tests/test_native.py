@@ -51,7 +51,7 @@ WRONG = {
     'a period with a fault is kept': ('region_text.py', "yield '    break;'",
                                       "yield from [*self.keeping(), '    break;']", 11, 'faults'),
     'items are small without a look': ('vectors.c', 'return all < 65536;', 'return true;', 11, 'small'),
-    'a cell past the last one is there': ('c_text.py', '>= {cells.size}U', '> {cells.size}U', 2, 'cells'),
+    'a cell past the last one is there': ('c_text.py', '>= {cells.size}U', '> {cells.size}U', 25, 'cells'),
     'a value comes a period too late': ('vectors.py', 'ago + 1, (*path', 'ago + 2, (*path', 6, 'small'),
     'no period comes before vectors': ('region_text.py', 'first = {self.vectors.depth}', 'first = 0', 4, 'small'),
     'the events of a dropped period are kept': ('network.h', 'kpn_history_cut(network->history, mark);',
