@@ -67,6 +67,22 @@ class Program(typing.NamedTuple):
         return {**self.shared, **self.tables, **arrays, **dict(zip(self.parts['par'], values))}
 
 
+def without_constants(tokens):
+    """The tokens that are left once the constants of a text are declared and replaced."""
+    known, own, depth, place = set(), set(), 0, 0
+    while place < len(tokens):
+        token = tokens[place]
+        if token == 'const' and tokens[place - 1] in ';{}' and ';' in tokens[place:]:
+            (own if depth else known).add(tokens[place + 1])
+            place = tokens.index(';', place)
+        elif token not in known | own:
+            yield token
+        depth += (token == '{') - (token == '}')
+        if depth == 0:
+            own.clear()
+        place += 1
+
+
 class Parser:
     def __init__(self, text):
         self.tokens = [token for token in TOKEN.findall(text) if token]
@@ -76,9 +92,9 @@ class Parser:
         self.constants, self.own, self.depth = {}, {}, 0
         # What channels have that say nothing.
         self.usual = None
-        # How long such names are that the text has, or that are too short.
-        declared = {name for word, name in zip(self.tokens, self.tokens[1:]) if word == 'const'}
-        self.ends, self.items = (max([least, *(len(it) for it in {*self.tokens} - declared if names.startswith(it))])
+        # How long such names are that the text has beside its constants, or that are too short.
+        left = set(without_constants(self.tokens))
+        self.ends, self.items = (max([least, *(len(it) for it in left if names.startswith(it))])
                                  for names, least in ((ENDS, 1), (ITEMS, 3)))
 
     def settle(self):
