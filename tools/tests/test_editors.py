@@ -63,7 +63,8 @@ def kind(name, kinds):
 def by_tokens(text):
     """The kinds by rounds.py, of a right text."""
     kinds = []
-    reserved = RESERVED | RESERVED_IN_TWO if text.startswith('language 2;') else RESERVED
+    is_second = re.match(r'(?:\s|#[^\n]*\n)*language 2;', text)
+    reserved = RESERVED | RESERVED_IN_TWO if is_second else RESERVED
     for found in TOKEN.finditer(text):
         token = found[1]
         if token is None:
