@@ -1,5 +1,6 @@
 -- What a worker does with a region between two holds of the lock.
-use Rattle.std.specs.Prelude.{◌≡◌, ℕ, ◌⊎◌, Bool, true, false, ℤ, List, Option, Some, None}
+use Rattle.std.specs.Prelude.{◌≡◌, ℕ, ◌*◌, ◌⊎◌, max, length, Bool, true, false, ℤ, List, Option, Some, None}
+use Rattle.kpn_net.specs.Tables.{Tables}
 use Rattle.kpn_region.specs.Batch.{Batch, RunsOn}
 use Rattle.kpn_book.specs.declared.answers.Refused.{Refused}
 use Rattle.kpn_book.specs.declared.answers.Refused.TheVariants as refused
@@ -26,12 +27,16 @@ abbrev pub DrainsFor : Takers → (drains : Bool) → Type 0
 DrainsFor Seats drains = drains ≡ false
 DrainsFor (Workers wanted) drains = drains ≡ true
 
+-- how many gets and puts a batch makes at most: 4,096, or 16 for each process of the network
+abbrev pub most_events : Tables → ℕ
+most_events t = max 4096 (16 * length t.instances)
+
 -- a region is claimed for a batch
 pub record ClaimsFor (takers : Takers) (batch : Batch) (before after : Book) : Type 0 where
   pub of : List ℕ
   pub drains : Bool
   pub drained : DrainsFor takers drains
-  pub claims : ClaimsRegion of 4096 drains batch before after
+  pub claims : ClaimsRegion of (most_events before.tables) drains batch before after
 
 -- a worker claims a region, which it then has in hand
 pub record ClaimsOne (takers : Takers) (hand : Option Batch) (before after : Book) : Type 0 where
@@ -39,10 +44,11 @@ pub record ClaimsOne (takers : Takers) (hand : Option Batch) (before after : Boo
   pub in_hand : hand ≡ Some batch
   pub claims : ClaimsFor takers batch before after
 
--- the region in hand runs by itself, and makes at most 4,096 gets and puts
+-- the region in hand runs by itself, and makes at most this many gets and puts
 abbrev pub Runs : (before after : Option Batch) → Type 0
 Runs None after = after ≡ None
-Runs (Some batch) after = (run : Batch) × (after ≡ Some run) × RunsOn 4096 0 batch run
+Runs (Some batch) after = (run : Batch) × (after ≡ Some run)
+    × RunsOn (most_events batch.tables) 0 batch run
 
 -- a batch is committed, for all of whose processes there was memory or not; or it is refused for this cause, and its
 -- processes are put back

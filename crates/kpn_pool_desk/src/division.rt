@@ -14,18 +14,19 @@ ghost use Rattle.std.specs.List.{All};
 ghost use Rattle.kpn_book.specs.RegionClaims.{IsSameBook};
 ghost use Rattle.kpn_book.specs.Regions.{batch_put_back};
 ghost use Rattle.kpn_pool_desk.specs.Desk.{with_book};
-ghost use Rattle.kpn_pool_desk.specs.RegionTurn.{DrainsFor, ClaimsFor};
+ghost use Rattle.kpn_pool_desk.specs.RegionTurn.{DrainsFor, ClaimsFor, most_events};
 
 use crate::desk::Desk;
 use crate::job::Job;
 use crate::regions::{Regions, Times};
 use crate::taking::Takers;
 use crate::tuning::{
-    COMMITS_BEFORE_CUT, COMMITS_FACTOR_OF_NEXT_CUT, EVENTS_PER_REGION, LONGEST_TURN_NANOSECONDS,
-    TIMED_COMMITS,
+    COMMITS_BEFORE_CUT, COMMITS_FACTOR_OF_NEXT_CUT, EVENTS_PER_PROCESS, EVENTS_PER_REGION,
+    LONGEST_TURN_NANOSECONDS, TIMED_COMMITS,
 };
 use kpn_book::Book;
 use kpn_history::State;
+use kpn_net::Network;
 use kpn_region::Batch;
 use std::alloc::{AllocError, Allocator};
 
@@ -188,6 +189,14 @@ fn fill<A: Allocator>(list: &mut Vec<u64, A>, count: usize) -> bool {
     true
 }
 
+/// How many gets and puts a batch of a region of this network makes at most.
+pub(crate) fn events_per_batch(network: &Network) -> u32
+    ensures { result ≡ most_events network.now }
+{
+    network.known();
+    EVENTS_PER_REGION.max(EVENTS_PER_PROCESS * network.instances() as u32)
+}
+
 /// Whether all these numbers are below this count.
 fn are_below(count: usize, numbers: &[usize]) -> bool
     ensures { (result ≡ true) → All (λ p. p < count) numbers.now }
@@ -275,9 +284,10 @@ impl<'n, J: Job, A: Allocator> Desk<'n, J, A> {
 
     /// Whether each region that is held, and one more, may use its budget.
     fn is_limit_far(&self) -> bool {
-        let processes = self.book.network().instances() as u64;
+        let network = self.book.network();
+        let processes = network.instances() as u64;
         let regions = (self.division.held as u64).saturating_add(1);
-        let most = u64::from(EVENTS_PER_REGION)
+        let most = u64::from(events_per_batch(network))
             .saturating_add(processes)
             .saturating_mul(regions);
         most <= self.division.limit.saturating_sub(self.book.commits())
@@ -350,13 +360,12 @@ impl<'n, J: Job, A: Allocator> Desk<'n, J, A> {
     {
         let drains = self.drains();
         let of = self.division.processes(region);
-        if !are_below(self.book.network().instances(), of) {
+        let network = self.book.network();
+        if !are_below(network.instances(), of) {
             return Ok(false);
         }
-        let claimed = match self
-            .book
-            .claim_region(of, batch, EVENTS_PER_REGION as usize, drains)
-        {
+        let most = events_per_batch(network) as usize;
+        let claimed = match self.book.claim_region(of, batch, most, drains) {
             Ok(claimed) => claimed,
             Err(error) => {
                 self.book.known();

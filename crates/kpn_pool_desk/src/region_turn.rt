@@ -6,11 +6,12 @@ ghost use Rattle.kpn_pool_desk.specs.Desk.{with_book};
 ghost use Rattle.kpn_pool_desk.specs.RegionTurn.{ClaimsOne, Runs, SettlesRegion, ComesBackFromRegion};
 
 use crate::desk::Desk;
+use crate::division::events_per_batch;
 use crate::gate::Gate;
 use crate::job::Job;
 use crate::phases::NextMove;
 use crate::seat::{Why, WorkerSeat};
-use crate::tuning::{CLAIMS_OF_ONE_REGION, EVENTS_PER_REGION, STEPS_PER_SHORT_TURN};
+use crate::tuning::{CLAIMS_OF_ONE_REGION, STEPS_PER_SHORT_TURN};
 use kpn_book::Refused;
 use kpn_net::Network;
 use kpn_region::Batch;
@@ -137,7 +138,8 @@ impl<'n, J: Job, A: Allocator> RegionTurn<'n, J, A> {
         ensures { Runs self.old self.new }
     {
         if let Some(batch) = &mut self.batch {
-            let _ = batch.run(quota.min(STEPS_PER_SHORT_TURN), EVENTS_PER_REGION);
+            let most = events_per_batch(batch.network());
+            let _ = batch.run(quota.min(STEPS_PER_SHORT_TURN), most);
         }
     }
 

@@ -59,6 +59,10 @@ pub(crate) const COMMITS_FACTOR_OF_NEXT_CUT: u64 = 16;
 /// A batch of a region makes at most this many gets and puts: they take as long as a worker looks on.
 pub(crate) const EVENTS_PER_REGION: u32 = 4_096;
 
+/// Or this many for each process of the network, if that is more: a claim and a commit go over all processes, and take
+/// as long for each as some events.
+pub(crate) const EVENTS_PER_PROCESS: u32 = 16;
+
 /// A worker claims the same region again this many times in a row, whatever the others wait for.
 pub(crate) const CLAIMS_OF_ONE_REGION: u32 = 16;
 

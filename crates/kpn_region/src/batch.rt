@@ -236,7 +236,7 @@ impl<'n, A: Allocator> Batch<'n, A> {
     }
 
     /// The network of which it is a region.
-    pub(crate) fn network(&self) -> &'n Network
+    pub fn network(&self) -> &'n Network
         ensures { result.now ≡ self.now.tables }
     {
         self.network
