@@ -39,6 +39,8 @@ mod resting;
 #[cfg(test)]
 mod runs;
 #[cfg(test)]
+mod scenes;
+#[cfg(test)]
 mod serving;
 #[cfg(test)]
 mod turns;
