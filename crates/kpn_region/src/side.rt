@@ -10,6 +10,9 @@ use std::marker::Model;
 /// No process.
 const NOBODY: u16 = u16::MAX;
 
+/// A region puts no more items on a channel: as many can be joined to a roomy one without memory.
+const MOST_PUT: usize = 4_096;
+
 /// The items of a channel that were claimed, and then those that the region has put; how many of them were taken; how
 /// many may be there that are not taken; and whether it is a sink that the region empties.
 #[derive(Debug, Drop)]
@@ -179,12 +182,13 @@ impl<A: Allocator> RegionSide<A> {
         Some(item)
     }
 
-    /// Whether there is room for one more item.
+    /// Whether there is room for one more item, and one more can be joined.
     #[inline(always)]
     pub(crate) fn has_room(&self) -> bool
         ensures { IsTrue result → length (untaken self.now) < self.now.room }
     {
         ((self.items.len() - self.taken) as u64) < self.room
+            && self.items.len() - self.claimed < MOST_PUT
     }
 
     /// Puts an item after the others. The error is that memory ran out, and then the channel is as before.
