@@ -7,10 +7,10 @@ usage: tools/check.py CRATE [--library | --edits [NAME ..]] [FLAG ..]
 It takes the libraries that `tools/build.py` has made, here or in the tree of KPN_BASE. What it makes and finds out it
 keeps for the next check outside the tree, since the gate refuses sources that no check reads. Flags go to `rattle
 check`, as --only PATH, --allow-holes, --start F, --test and --jobs N; without --jobs it uses two. If a crate below has
-changed here, make its library first, and those of the crates between, by --library. --edits tries the wrong bodies of
-the crate, or those whose names contain a NAME, and prints what refuses each; one that can't be put in, or does not
-compile, is not tried. --changed is the quick gate for every day, as changed.py says: all that has changed, what stands
-on it, and the rows and tests above.
+changed here, make its library first, and those of the crates between, by --library. --edits tries the edits of the
+crate, or the wrong bodies whose names contain a NAME, and prints what refuses each; one that can't be put in, or does
+not compile, is not tried. --changed is the quick gate for every day, as changed.py says: all that has changed, what
+stands on it, and the rows and tests above.
 """
 import os
 import pathlib
@@ -93,10 +93,10 @@ def verdict_on(crate, edit, kit, room):
 
 def try_edits(crate, kit, room, names):
     """Tries the edits of a crate, and returns whether all are refused."""
-    edits = sorted((crate.folder / 'must-fail').glob('*.edit'))
-    chosen = [it for it in edits if not names or any(name in it.stem for name in names)]
+    bodies = sorted((crate.folder / 'must-fail').glob('*'))
+    chosen = [it for it in bodies if (any(name in it.stem for name in names) if names else it.suffix == '.edit')]
     if not chosen:
-        sys.exit(f'{crate.name} has no edit' + (f' whose name contains {" or ".join(names)}' if names else ''))
+        sys.exit(f'{crate.name} has no such wrong body')
     found = []
     for edit in chosen:
         verdict, said = verdict_on(crate, edit, kit, room)

@@ -1,12 +1,14 @@
 #!/usr/bin/env python3
-"""Tries the wrong bodies that no must-fail edit has, since a compared run or a test refuses them.
+"""Tries the wrong bodies that no must-fail edit has: those that a compared run or a test refuses, and those that the
+gate leaves out for their time.
 
 usage: tools/wrong_bodies.py [NAME ..]
 
 Each stands in a file CRATE/must-fail/NAME.md. Its first line says whether a clause refuses it too. Then come lines
 `file:`, `old:` and `new:` as in an edit, and a line `refused by:` that begins with the crate whose run or tests refuse
 it, if any do. The gate runs these as they are. This puts a wrong body into a copy and runs them unproved: what comes
-out has to differ. With a NAME it tries those whose names contain one.
+out has to differ. Where a clause alone refuses it, the prover has to, over the libraries that `tools/check.py` takes.
+With a NAME it tries those whose names contain one.
 """
 import pathlib
 import shutil
@@ -14,6 +16,7 @@ import subprocess
 import sys
 import tempfile
 
+import check
 import prover
 from check import TOP, edited
 
@@ -65,11 +68,18 @@ def run_on(crate):
     return 'NOT REFUSED' if all(right) else 'refused'
 
 
+def by_prover(crate, wrong_body):
+    kit = prover.find_kit()
+    with tempfile.TemporaryDirectory(prefix='kpn-check-') as folder:
+        verdict, _ = check.verdict_on(crate, wrong_body, kit, check.view_of(crate, pathlib.Path(folder)))
+    return f'{verdict}, by a clause'
+
+
 def verdict_on(crate, wrong_body):
     lines = wrong_body.read_text().splitlines()
     tellers = [line for line in lines if line.startswith(REFUSED_BY)]
     if not tellers and lines[0].startswith(BY_CLAUSE):
-        return f'refused by a clause alone: rename it to .edit, and try tools/check.py {crate.name} --edits'
+        return by_prover(crate, wrong_body)
     if not tellers:
         return f'NOT TRIED: it has no line `{REFUSED_BY}`'
     teller = tellers[0].removeprefix(REFUSED_BY).split()[0].rstrip(',:')
