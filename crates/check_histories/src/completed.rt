@@ -38,7 +38,7 @@ pub fn a_clogged_writer_has_more()
     ensures whole { IsComplete resolved_network resolved_run 0 }
 {}
 
-/// The sink behind a channel that is full at the limit is not complete: with more room it gets an item, and is.
+/// The sink after a channel that is full at the limit is not complete: with more room it gets an item, and is.
 pub fn a_sink_behind_a_full_channel_has_more()
     ensures sink { ¬ IsComplete two_at_limit two_at_limit_run 2 }
     ensures had { written_on two_at_limit_run 2 ≡ [] }

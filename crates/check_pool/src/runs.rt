@@ -50,7 +50,7 @@ process copy(in i; out o) { while 1 { read i x; write o x; } }
 network { source r; source s; sink z cap 1; d = drop(r;); c = copy(s; z); }
 ";
 
-/// Numbers through two copies to a sink: so many that workers whose gate lets everything through cut the network.
+/// Numbers through two copies to a sink: enough that workers whose gate lets everything through cut the network.
 const LONG: &str = "process count(out o) { k = 0; while (k < 9000) { write o k; k = (k + 1); } }
 process copy(in i; out o) { while 1 { read i x; write o x; } }
 network {

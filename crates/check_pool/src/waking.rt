@@ -187,7 +187,7 @@ pub fn are_in_time<R: Threads + Wait + Clock + Sync>(
 }
 
 /// An item is fed once the workers rest, and the thread that serves the sinks sleeps before it comes there: on a
-/// sink that is then full, on one that is not half full, and behind a gate that holds the other worker.
+/// sink that is then full, on one that is not half full, and by a gate that holds the other worker.
 #[test]
 fn items_go_from_hand_to_hand(rt: HostRuntime) -> Result<(), Fail> {
     for (text, held) in [

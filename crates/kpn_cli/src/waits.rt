@@ -157,7 +157,7 @@ impl NetworkWaits {
         push(text, FIRST_ITEM)
     }
 
-    /// Whether each sink is complete, if this is who waits at the end of a run: nobody behind it waits for room.
+    /// Whether each sink is complete, if this is who waits at the end of a run: nobody after it waits for room.
     pub(crate) fn are_sinks_complete(&self, document: &Document) -> bool {
         let network = document.network();
         for channel in 0..network.channels() {

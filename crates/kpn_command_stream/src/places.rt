@@ -121,7 +121,7 @@ fn unnamed(alloc: Global, ends: EndKind, name: &str) -> StreamRefusal
     }
 }
 
-/// The name for the end of this number, of so many.
+/// The name for the end of this number, if there are this many.
 fn name_for<'a>(named: &[NamedEnd<'a>], number: usize, count: usize) -> Option<&'a str>
     ensures { option_map (λ name. name.now) result ≡ name_for named.now number count }
 {

@@ -60,7 +60,7 @@ impl DrawnRun<'_> {
         Ok(text)
     }
 
-    // The picture at this scale, of so many processes, with these clocks at the end.
+    // The picture at this scale, of this many processes, with these clocks at the end.
     fn text_at(
         self,
         alloc: Global,

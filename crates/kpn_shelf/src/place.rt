@@ -53,7 +53,7 @@ impl Node {
     }
 }
 
-/// The path behind all links of the plain file that a path names, or of the one that can be made there. None if what
+/// The path, after all links, of the plain file that a path names, or of the one that can be made there. None if what
 /// the path leads to is written itself: a device, a terminal, a pipe, a socket, or a file by a descriptor of a process,
 /// as `/dev/fd/3`. Such a file need have no name.
 pub(super) fn behind_links<R: Files + AllocGlobal>(

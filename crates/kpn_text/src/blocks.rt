@@ -30,7 +30,7 @@ pub(crate) struct Body<'a> {
 }
 
 impl Body<'_> {
-    /// The statements of a block at a level, with the blocks inside it, after so many indents. It nests no deeper than
+    /// The statements of a block at a level, with the blocks inside it, after this many indents. It nests no deeper than
     /// the program does.
     #[cycle(body)]
     pub(crate) fn block(

@@ -36,7 +36,7 @@ pub(crate) fn process(
     bytes(out, b"}\n")
 }
 
-/// The head of a process with so many parameters, up to the end of its line, which opens the body.
+/// The head of a process with this many parameters, up to the end of its line, which opens the body.
 fn head(out: &mut Vec<u8>, names: &ProcessNames, pars: usize) -> Result<(), AllocError>
     ensures { OnOk result (Writes out.old.items out.new.items (λ more.
         codes "process " ++ (names.now.name ++ (codes "("

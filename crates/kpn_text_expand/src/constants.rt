@@ -200,7 +200,7 @@ impl<'a> Constants<'a> {
         }
     }
 
-    /// The tokens that are left behind the last one.
+    /// The tokens that are left after the last one.
     #[tactic(auto, unfolding(kpn_text_tokens::specs::Results::and_then))]
     pub(crate) fn finish(
         self,

@@ -20,7 +20,7 @@ pub(crate) enum SumSpot {
     Inside,
     /// After a name at the front, or after its index.
     Target,
-    /// In that index, inside so many brackets more.
+    /// In that index, inside this many brackets more.
     Index(usize),
     /// After this operator at this byte, which stands after a target.
     Operator(Mark, usize),

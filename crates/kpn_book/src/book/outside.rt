@@ -11,7 +11,7 @@ use kpn_history::Event;
 use std::alloc::{AllocError, Allocator};
 
 impl<'n, A: Allocator> Book<'n, A> {
-    /// Makes room in the history for so many events more: calls that append no more take no memory there. The error is
+    /// Makes room in the history for this many events more: calls that append no more take no memory there. The error is
     /// that memory ran out.
     pub fn reserve(&mut self, events: usize) -> Result<(), AllocError>
         ensures { self.new ≡ self.old }

@@ -260,7 +260,7 @@ fn items_claimed<A: Allocator>(
     }
 }
 
-/// How many items of a channel may be there and not taken, if so many are claimed.
+/// How many items of a channel may be there and not taken, if this many are claimed.
 fn room_claimed<A: Allocator>(channel: &Channel<A>, writes: bool, items: usize) -> u64
     requires { items ≤ length (unread channel.now) }
     ensures { result ≡ room_claimed writes items channel.now }

@@ -62,7 +62,7 @@ impl<'n, A: Allocator> OpenBook<'n, A> {
         self.can_count(batch.events().len())
     }
 
-    /// Whether so many commits more can be counted, and one for each process.
+    /// Whether this many commits more can be counted, and one for each process.
     pub(crate) fn can_count(&self, more: usize) -> bool
         requires { length self.now.schedule.states ≡ length self.now.network.now.instances }
         ensures { IsTrue result ↔ CanCount more (book_of self.now) }
