@@ -21,6 +21,13 @@ pub holds_first : (s : Schedule) → IsSchedule s → (p : ℕ) → slice_get s.
     → HoldsFirst p s (first_held p s)
 holds_first s is p first = HoldsFirst-popped s.states s.queue p (drop 1 s.queue) is (first_taken s.queue 0 p first)
 
+pub first_there : (b : Book) (p : ℕ) → IsSchedule b.schedule → IsKept b → slice_get b.schedule.queue 0 ≡ Some p
+    → p < length b.tables.instances
+first_there b p schedule kept first =
+    let there = (holds_first b.schedule schedule p first).there in
+    let long = kept.in_step.processes in
+    omega (arith, there, long)
+
 pub held_first : (b : Book) (p : ℕ) → HoldsFirst p b.schedule (first_held p b.schedule) → IsHeld (first_claimed p b) p
 held_first b p holds = claimed_is_held p b (first_claimed p b) (record { holds = holds; same = refl })
 
