@@ -1,5 +1,5 @@
 -- The first process of the queue makes steps and is committed. It is held in between, though no state says so.
-use Rattle.kpn_book.proofs.Common.{◌≡◌, ◌≢◌, ℕ, ◌+◌, ◌-◌, ◌<◌, ◌≤◌, ◌^◌, ℤ, Bool, true, false, cond, is_some, List, [], ◌∷◌, ◌++◌, drop, slice_get, slice_index, Option, Some, None, Result, Ok, Err, refl, sym, ap, ◌∙◌, subst, arith, inl, inr, last_or, OnErr, cases_eq, false≢true, set-set, Tables, instance_at, channel_at, is_sink, IsNetwork, Stop, Advanced, IsAdvance, IsWithinQuota, Event, Held, is_held, last_or-push, Machine, with_frame, Schedule, IsSchedule, HoldsFirst, first_held, with_state, Done, Book, IsHeld, held_count, IsClaimed, standing_at, with_one_commit, IsWriteTo, IsAnswer, IsOwnAdvance, ready_if_paused, HandlesStop, IsKept, IsBook, StepsNext}
+use Rattle.kpn_book.proofs.Common.{◌≡◌, ◌≢◌, ℕ, ◌+◌, ◌-◌, ◌<◌, ◌≤◌, ◌^◌, ℤ, Bool, true, false, cond, is_some, List, [], ◌∷◌, ◌++◌, length, drop, slice_get, slice_index, Option, Some, None, Result, Ok, Err, refl, sym, ap, ◌∙◌, subst, arith, inl, inr, last_or, OnErr, cases_eq, false≢true, set-set, Tables, instance_at, channel_at, is_sink, IsNetwork, Stop, Advanced, IsAdvance, IsWithinQuota, Event, Held, is_held, last_or-push, Machine, with_frame, Schedule, IsSchedule, HoldsFirst, first_held, with_state, Done, Book, IsHeld, held_count, IsClaimed, standing_at, with_one_commit, IsWriteTo, IsAnswer, IsOwnAdvance, ready_if_paused, HandlesStop, IsKept, IsBook, StepsNext}
 use Rattle.kpn_step.specs.declared.stop.Stop.TheVariants as stop
 use Rattle.kpn_history.specs.declared.event.Event.TheVariants as event
 use Rattle.kpn_book.proofs.Waiting.{first_taken}

@@ -99,9 +99,9 @@ impl<'n, A: Allocator> OpenBook<'n, A> {
     }
 
     /// Process `p`, which is the first of the queue and has this program and these ports, makes at most `quota` steps,
-    /// and then a get or put, if it can at once. It stays the first, and its turn goes on. It ends with the put on a sink, which is returned, or a put that
-    /// fills its channel. It also ends if `p` can't: if it has `made` none in this turn or pauses, it is committed.
-    /// Otherwise it goes to the tail of the queue.
+    /// and then a get or put, if it can at once. It stays the first, and its turn goes on. It ends with the put on a
+    /// sink, which is returned, or a put that fills its channel. It also ends if `p` can't: if it has `made` none in
+    /// this turn or pauses, it is committed. Otherwise it goes to the tail of the queue.
     #[inline(always)]
     fn event_ahead(
         &mut self,
