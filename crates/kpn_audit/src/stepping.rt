@@ -63,7 +63,7 @@ pub(crate) fn step_on<A: Allocator>(
 {
     let mut remaining = quota;
     'steps: loop {
-        let (steps, stop) = machine.step(network, p, part_of(remaining));
+        let (steps, stop) = machine.step(network, network.program(p), p, part_of(remaining));
         remaining -= u64::from(steps);
         if remaining == 0 || !matches!(stop, Stop::Paused) {
             return stop;

@@ -1,5 +1,5 @@
 -- The first process of the queue makes steps and is committed. It is held in between, though no state says so.
-use Rattle.kpn_book.proofs.Common.{◌≡◌, ◌≢◌, ℕ, ◌+◌, ◌-◌, ◌<◌, ◌≤◌, ◌^◌, ℤ, Bool, true, false, cond, is_some, List, [], ◌∷◌, ◌++◌, drop, slice_get, slice_index, Option, Some, None, Result, Ok, Err, refl, sym, ap, ◌∙◌, subst, arith, inl, inr, last_or, OnErr, cases_eq, false≢true, set-set, Tables, instance_at, channel_at, is_sink, IsNetwork, Stop, Advanced, IsAdvance, IsWithinQuota, Event, Held, is_held, last_or-push, Machine, with_frame, Schedule, IsSchedule, HoldsFirst, first_held, with_state, Done, Book, IsHeld, held_count, IsClaimed, standing_at, with_one_commit, IsWriteTo, IsAnswer, IsOwnAdvance, ready_if_paused, HandlesStop, IsKept, IsBook, StepsNext}
+use Rattle.kpn_book.proofs.Common.{◌≡◌, ◌≢◌, ℕ, ◌+◌, ◌-◌, ◌<◌, ◌≤◌, ◌^◌, ℤ, Bool, true, false, cond, is_some, List, [], ◌∷◌, ◌++◌, length, drop, slice_get, slice_index, Option, Some, None, Result, Ok, Err, refl, sym, ap, ◌∙◌, subst, arith, inl, inr, last_or, OnErr, cases_eq, false≢true, set-set, Tables, instance_at, channel_at, is_sink, IsNetwork, Stop, Advanced, IsAdvance, IsWithinQuota, Event, Held, is_held, last_or-push, Machine, with_frame, Schedule, IsSchedule, HoldsFirst, first_held, with_state, Done, Book, IsHeld, held_count, IsClaimed, standing_at, with_one_commit, IsWriteTo, IsAnswer, IsOwnAdvance, ready_if_paused, HandlesStop, IsKept, IsBook, StepsNext}
 use Rattle.kpn_step.specs.declared.stop.Stop.TheVariants as stop
 use Rattle.kpn_history.specs.declared.event.Event.TheVariants as event
 use Rattle.kpn_book.proofs.Waiting.{first_taken}
@@ -20,6 +20,13 @@ use Rattle.kpn_book.proofs.Committing.{kept_moved, kept_claimed, kept_reserved, 
 pub holds_first : (s : Schedule) → IsSchedule s → (p : ℕ) → slice_get s.queue 0 ≡ Some p
     → HoldsFirst p s (first_held p s)
 holds_first s is p first = HoldsFirst-popped s.states s.queue p (drop 1 s.queue) is (first_taken s.queue 0 p first)
+
+pub first_there : (b : Book) (p : ℕ) → IsSchedule b.schedule → IsKept b → slice_get b.schedule.queue 0 ≡ Some p
+    → p < length b.tables.instances
+first_there b p schedule kept first =
+    let there = (holds_first b.schedule schedule p first).there in
+    let long = kept.in_step.processes in
+    omega (arith, there, long)
 
 pub held_first : (b : Book) (p : ℕ) → HoldsFirst p b.schedule (first_held p b.schedule) → IsHeld (first_claimed p b) p
 held_first b p holds = claimed_is_held p b (first_claimed p b) (record { holds = holds; same = refl })

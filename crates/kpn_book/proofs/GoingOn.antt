@@ -6,6 +6,7 @@ use Rattle.kpn_book.specs.Open.{first_claimed, with_ready, MayBeReady, HandlesAh
 use Rattle.kpn_book.proofs.Queueing.{scheduled, rotated, IsSchedule-rotated, IsSchedule-made_ready}
 use Rattle.kpn_book.proofs.Following.{moved}
 use Rattle.kpn_book.proofs.FirstOfQueue.{turn_made}
+use Rattle.kpn_book.proofs.Stepped.{step_tables}
 
 -- ---- the queue in another order
 
@@ -86,6 +87,10 @@ goes_back b p book holds first s same =
 
 -- ---- a turn
 
+pub turn_tables : (quota : ℕ) (sink : Option ℕ) (before after : Book) → IsTurn quota sink before after
+    → after.tables ≡ before.tables
+turn_tables quota sink before after turn = step_tables quota turn.step.answer before after turn.step.steps
+
 module _ (quota p : ℕ) (b : Book) (book : IsBook b) (holds : HoldsFirst p b.schedule (first_held p b.schedule))
     (first : slice_get b.schedule.queue 0 ≡ Some p) (more : b.commits + held_count b + 1 < 2 ^ 64) (s : Machine)
     (x : Advanced) (own : IsOwnAdvance (first_claimed p b) p x) (advance : IsAdvance x)
@@ -134,6 +139,9 @@ module _ (quota : ℕ) (sink : Option ℕ) (before after : Book) (turn : IsTurnA
   pub ahead_commits : after.commits ≡ before.commits + 1
   ahead_commits = ap (λ b. b.commits) turn.order.same ∙ turn.turn.commits
 
+  pub ahead_tables : after.tables ≡ before.tables
+  ahead_tables = ap (λ b. b.tables) turn.order.same ∙ turn_tables quota sink before turn.between turn.turn
+
   pub ahead_held : held_count after ≡ held_count before
   ahead_held = ap held_count turn.order.same ∙ turn.turn.held
 
@@ -169,6 +177,7 @@ module _ (quota p made : ℕ) (b after : Book) where
       let more = ahead_commits quota None b after turn in
       record {
         turns = and_turn quota b b after None no_turn turn;
+        tables = ahead_tables quota None b after turn;
         held = ahead_held quota None b after turn;
         not_less = omega (arith, more);
         at_most = omega (arith, more);
@@ -182,6 +191,7 @@ module _ (quota p made : ℕ) (b after : Book) where
       let more = ahead_commits quota sink b after turn in
       record {
         turns = and_turn quota b b after sink no_turn turn;
+        tables = ahead_tables quota sink b after turn;
         held = ahead_held quota sink b after turn;
         not_less = omega (arith, more);
         at_most = omega (arith, more);
@@ -197,6 +207,7 @@ module _ (quota p made : ℕ) (b after : Book) where
       let more = ahead_commits quota None b between turn in
       record {
         turns = another_order between after (and_turn quota b b between None no_turn turn) order;
+        tables = ap (λ z. z.tables) order.same ∙ ahead_tables quota None b between turn;
         held = ap held_count order.same ∙ ahead_held quota None b between turn;
         not_less = omega (arith, same, more);
         at_most = omega (arith, same, more);
@@ -210,6 +221,7 @@ module _ (quota p made : ℕ) (b after : Book) where
       let more = turn.commits in
       record {
         turns = one_turn_more b after no_turn turn.step;
+        tables = turn_tables quota sink b after turn;
         held = turn.held;
         not_less = omega (arith, more);
         at_most = omega (arith, more);
@@ -224,6 +236,7 @@ module _ (quota p made : ℕ) (b after : Book) where
       let same : after.commits ≡ b.commits = ap (λ z. z.commits) order.same ∙ ap (λ z. z.commits) steps.there in
       record {
         turns = another_order between after (steps_on b between no_turn steps) order;
+        tables = ap (λ z. z.tables) order.same ∙ ap (λ z. z.tables) steps.there;
         held = ap held_count order.same ∙ ap held_count steps.there;
         not_less = omega (arith, same);
         at_most = omega (arith, same);

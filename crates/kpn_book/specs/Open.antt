@@ -1,7 +1,8 @@
 -- What stays true of a book in the midst of a call. A reader of the public contracts needs none of it.
 use Rattle.std.specs.Prelude.{◌≡◌, ◌≢◌, ℕ, ◌+◌, ◌<◌, ◌≤◌, ◌^◌, ◌⊎◌, false, ℤ, IsTrue, if◌then◌else◌, List, [], ◌∷◌, ◌++◌, length, Option, Some, None, Contains, Result, Ok, Err, slice_get, slice_index}
 use Rattle.std.specs.Option.{option_to_list}
-use Rattle.kpn_net.specs.Tables.{Tables, instance_at, channel_at, is_sink}
+use Rattle.kpn_net.specs.Tables.{Tables, instance_at, program_of, channel_at, is_sink}
+use Rattle.kpn_lang.specs.Parts.{Parts}
 use Rattle.kpn_net.specs.Waits.{AreDistinct}
 use Rattle.kpn_step.specs.declared.stop.Stop.{Stop}
 use Rattle.kpn_step.specs.declared.stop.Stop.TheVariants as stop
@@ -250,6 +251,12 @@ pub record HandlesAhead (p : ℕ) (s : Stop) (sink : Option ℕ) (before after :
   pub handles : HandlesFirst p s sink (first_claimed p before)
       (with_ready (option_to_list woken) (made_ready p (first_held p before.schedule)) after)
 
+-- process p has this program, and these channels at its ports
+pub record HasProgramAndPorts (t : Tables) (p : ℕ) (program : Parts) (ins outs : List ℕ) : Type 0 where
+  pub program : program ≡ program_of t p
+  pub ins : ins ≡ (instance_at t p).ins
+  pub outs : outs ≡ (instance_at t p).outs
+
 -- one turn in any order: a step of a row, after which the queue is in another order
 pub record IsTurnAhead (quota : ℕ) (sink : Option ℕ) (before after : Book) : Type 0 where
   pub between : Book
@@ -265,6 +272,7 @@ sink_at_end None = None
 -- has not ended, p stays the first, and is committed once more
 pub record GoesFurther (quota p made : ℕ) (ended : Option (Option ℕ)) (before after : Book) : Type 0 where
   pub turns : TurnsInAnyOrder quota before (sink_at_end ended) after
+  pub tables : after.tables ≡ before.tables
   pub held : held_count after ≡ held_count before
   pub not_less : before.commits ≤ after.commits
   pub at_most : after.commits ≤ before.commits + 1

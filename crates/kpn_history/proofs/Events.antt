@@ -1,5 +1,5 @@
 -- What one more event does to the lists of a history.
-use Rattle.std.proofs.Common.{◌≡◌, ℕ, ◌<◌, cond, Bool, true, false, ◌||◌, List, [], ◌∷◌, ◌++◌, Option, Some, None, refl, sym, ap, ◌∙◌, ◌-◌, suc, length, slice_get, arith}
+use Rattle.std.proofs.Common.{◌≡◌, ℕ, cond, Bool, true, false, ◌||◌, List, [], ◌∷◌, ◌++◌, Option, Some, None, refl, sym, ap, ◌∙◌}
 use Rattle.kpn_history.proofs.Common.{filter, flat_map, last_or, filter-append, list_any-append, Said, IsPrefix, Event, Get, Put, is_of, last_event, said_in, talk_of, is_end_of, has_ended, written_in, read_in, written_on, read_on, IsPrefix-append}
 use Rattle.std.proofs.lemmas.List.{flat_map_more, append-nil}
 
@@ -21,28 +21,9 @@ pub flat_map-same : {X A : Type 0} (f : X → List A) (xs : List X) (x : X) → 
     → flat_map f (xs ++ x ∷ []) ≡ flat_map f xs
 flat_map-same f xs x e = flat_map-push f xs x ∙ ap (λ ys. flat_map f xs ++ ys) e ∙ append-nil (flat_map f xs)
 
-last_or-at-end : {A : Type 0} (x : A) (xs : List A) → slice_get (x ∷ xs) (length xs) ≡ last_or (Some x) xs
-last_or-at-end x [] = refl
-last_or-at-end x (y ∷ xs) = last_or-at-end y xs
-
-pub last_or-at : {A : Type 0} (xs : List A) → slice_get xs (length xs - 1) ≡ last_or None xs
-last_or-at [] = refl
-last_or-at (x ∷ xs) = let one : suc (length xs) - 1 ≡ length xs = omega arith in
-    ap (slice_get (x ∷ xs)) one ∙ last_or-at-end x xs
-
 pub last_or-push : {A : Type 0} (o : Option A) (xs : List A) (x : A) → last_or o (xs ++ x ∷ []) ≡ Some x
 last_or-push o [] x = refl
 last_or-push o (y ∷ xs) x = last_or-push (Some y) xs x
-
--- the last of the later list, or else of the earlier one
-pub last_or-append : {A : Type 0} (o : Option A) (xs ys : List A) → last_or o (xs ++ ys) ≡ last_or (last_or o xs) ys
-last_or-append o [] ys = refl
-last_or-append o (x ∷ xs) ys = last_or-append (Some x) xs ys
-
--- what comes before a list with an element does not count
-pub last_or-some : {A : Type 0} (o : Option A) (xs : List A) → 0 < length xs → last_or None xs ≡ last_or o xs
-last_or-some o [] some = absurd omega (arith, some)
-last_or-some o (x ∷ xs) some = refl
 
 -- ---- the last event of a process
 

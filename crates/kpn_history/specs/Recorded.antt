@@ -1,6 +1,5 @@
 -- What contracts see of a history that the code holds.
-use Rattle.std.specs.Prelude.{◌≡◌, ℕ, Bool, true, List, [], Option, None}
-use Rattle.std.specs.List.{last_or}
+use Rattle.std.specs.Prelude.{◌≡◌, ℕ, Bool, true, false, List, []}
 use Rattle.kpn_history.specs.declared.event.Event.{Event}
 
 -- the events, oldest first, for how many more memory is reserved, and whether they are kept in memory
@@ -9,7 +8,7 @@ pub record Recorded : Type 0 where
   pub room : ℕ
   pub is_kept : Bool
 
--- what is past: nothing if the events are kept, and this is its newest event
-pub record IsNoted (keeps : Bool) (newest : Option Event) (past : List Event) : Type 0 where
+-- nothing is past if the events are kept, and else all is
+pub record IsNoted (keeps : Bool) (past in_memory : List Event) : Type 0 where
   pub kept : keeps ≡ true → past ≡ []
-  pub last : newest ≡ last_or None past
+  pub forgotten : keeps ≡ false → in_memory ≡ []

@@ -1,6 +1,5 @@
 //! A history as a list of events. Memory is reserved first, so that a push asks for none.
-ghost use Rattle.std.specs.Prelude.{◌≡◌, ℕ, ◌+◌, ◌<◌, ◌≤◌, [], ◌∷◌, ◌++◌, length, slice_get, true, IsTrue, OnOk, OnErr, vec_len, vec_capacity};
-ghost use Rattle.std.specs.List.{last_or};
+ghost use Rattle.std.specs.Prelude.{◌≡◌, ◌+◌, ◌<◌, ◌≤◌, [], ◌∷◌, ◌++◌, length, slice_get, true, IsTrue, OnOk, OnErr};
 ghost use Rattle.kpn_history.specs.Keeping.{keeps_all};
 
 use crate::event::Event;
@@ -18,12 +17,10 @@ const FEWEST_EVENTS: usize = 256;
 
 /// The events of a run so far, oldest first, and memory for some more.
 ///
-/// If it keeps nothing, those in memory become past whenever more memory is wanted: then only proofs know them.
+/// If it keeps nothing, each event becomes past at once: then only proofs know it, and it takes up no room.
 #[derive(Debug, Drop)]
 pub struct History<A: Allocator = Global> {
     past: Past<Event>,
-    // the newest of the past
-    newest: Option<Event>,
     keeps: bool,
     events: Vec<Event, A>,
 }
@@ -40,7 +37,7 @@ impl<A: Allocator> Model for History<A> {
       is_kept = h.keeps;
     } };
 
-    ghost invariant = { λ h. IsNoted h.keeps h.newest h.past.items };
+    ghost invariant = { λ h. IsNoted h.keeps h.past.items h.events.items };
 }
 
 impl<A: Allocator> History<A> {
@@ -62,7 +59,6 @@ impl<A: Allocator> History<A> {
     {
         History {
             past: Past::new(),
-            newest: None,
             keeps: keeping.is_all(),
             events: Vec::new(alloc),
         }
@@ -96,15 +92,9 @@ impl<A: Allocator> History<A> {
         ensures refused { OnErr result (self.new ≡ self.old) }
         ensures kept { self.new.is_kept ≡ self.old.is_kept }
     {
-        if self.keeps {
-            return self.events.reserve(n);
-        }
-        if self.events.capacity() < n {
-            // more than asked for, so that not each call that asks for as much comes here
-            return self.events.reserve(n.saturating_mul(2).max(FEWEST_EVENTS));
-        }
-        forget(&mut self.past, &mut self.newest, &mut self.events);
-        Ok(())
+        // Where none is kept, the room stays. So there is some for more calls than this one.
+        let wanted = if self.keeps { n } else { n.max(FEWEST_EVENTS) };
+        self.events.reserve(wanted)
     }
 
     /// For how many more events memory is reserved.
@@ -122,7 +112,11 @@ impl<A: Allocator> History<A> {
         ensures room { self.old.room ≤ self.new.room + 1 }
         ensures kept { self.new.is_kept ≡ self.old.is_kept }
     {
-        self.events.push_reserved(event);
+        if self.keeps {
+            self.events.push_reserved(event);
+        } else {
+            self.past = self.past.and(&event);
+        }
     }
 
     /// Puts these events after the others, at once. It takes no memory.
@@ -134,10 +128,10 @@ impl<A: Allocator> History<A> {
     {
         if self.keeps {
             let _appended = self.events.extend_from_slice(events);
-            return;
+        } else {
+            let past = mem::replace(&mut self.past, Past::new());
+            self.past = past.and_all(events);
         }
-        forget(&mut self.past, &mut self.newest, &mut self.events);
-        pass(&mut self.past, &mut self.newest, events);
     }
 
     /// Whether the events are kept.
@@ -161,48 +155,4 @@ impl<A: Allocator> History<A> {
     {
         self.events.get(k).copied()
     }
-
-    /// The newest event; none if there are no events.
-    pub fn last(&self) -> Option<Event>
-        ensures { result ≡ last_or None self.now.events }
-    {
-        newest_of(&self.events, self.newest)
-    }
-}
-
-/// The newest of these events, or else what was newest before them.
-fn newest_of(events: &[Event], before: Option<Event>) -> Option<Event>
-    ensures { result ≡ last_or before events.now }
-{
-    if events.is_empty() {
-        return before;
-    }
-    events.last().copied()
-}
-
-/// The events in memory become past.
-fn forget<A: Allocator>(
-    past: &mut Past<Event>,
-    newest: &mut Option<Event>,
-    events: &mut Vec<Event, A>,
-)
-    requires { newest.old ≡ last_or None past.old.items }
-    ensures past { past.new.items ≡ past.old.items ++ events.old.items }
-    ensures newest { newest.new ≡ last_or None past.new.items }
-    ensures events { events.new.items ≡ [] }
-    ensures capacity { vec_capacity events.new ≡ vec_capacity events.old }
-{
-    pass(past, newest, events);
-    events.clear();
-}
-
-/// These events become past, after those that are.
-fn pass(past: &mut Past<Event>, newest: &mut Option<Event>, events: &[Event])
-    requires { newest.old ≡ last_or None past.old.items }
-    ensures past { past.new.items ≡ past.old.items ++ events.now }
-    ensures newest { newest.new ≡ last_or None past.new.items }
-{
-    *newest = newest_of(events, *newest);
-    let before = mem::replace(past, Past::new());
-    *past = before.and_all(events);
 }

@@ -33,7 +33,7 @@ fn come_to_stop(state: &mut Machine, network: &Network, p: usize) -> Result<Stop
     ensures stands { IfOk result (Stands network.now state.new p) }
 {
     ensure!(p < network.instances(), "there is no such process");
-    let (_, stop) = state.step(network, p, 1_000);
+    let (_, stop) = state.step(network, network.program(p), p, 1_000);
     ensure!(state.end_of(p).is_none(), "the process has ended");
     ensure!(state.wait(p) == Wait::Nobody, "the process waits");
     Ok(stop)
@@ -85,7 +85,7 @@ fn get(state: &mut Machine, network: &Network, p: usize, c: usize, item: i64) ->
 {
     to_read(state, network, p, c)?;
     ensure!(state.has_item(c), "there is no item");
-    let got = state.get(network, p, c);
+    let got = state.get(network, network.program(p), p, c);
     ensure!(got.item == item, "another item was got");
     woken(got.woken)
 }

@@ -190,7 +190,8 @@ impl<'n, A: Allocator> Book<'n, A> {
             return Ok(None);
         };
         let network = self.parts.network;
-        let (_, stop) = self.parts.machine.step(network, p, quota);
+        let program = network.program(p);
+        let (_, stop) = self.parts.machine.step(network, program, p, quota);
         if let Err(error) = self.parts.reserve(p, stop) {
             self.parts.schedule.put_back(p);
             return Err(error);

@@ -1,10 +1,11 @@
 //! Turns of which nobody sees the order. A process gets and puts items in place, as long as it can. It stays the first
 //! of the queue, and then goes to its tail without an event. Only if it could do nothing, it is committed at its stop.
-ghost use Rattle.std.specs.Prelude.{◌≡◌, ◌≢◌, ◌<◌, ◌≤◌, ◌+◌, ◌*◌, ◌^◌, ℤ, true, false, slice_get, Some, IfSome, IfNone, IfOk, OnErr};
+ghost use Rattle.std.specs.Prelude.{◌≡◌, ◌≢◌, ◌<◌, ◌≤◌, ◌+◌, ◌*◌, ◌^◌, ℤ, true, false, length, slice_get, Some, IfSome, IfNone, IfOk, OnErr};
 ghost use Rattle.kpn_net.specs.Tables.{program_of};
 ghost use Rattle.kpn_step.specs.Frame.{Frame};
 ghost use Rattle.kpn_step.specs.Stops.{IsAtPort};
 ghost use Rattle.kpn_step.specs.declared.stop.Stop.TheVariants as stops;
+ghost use Rattle.kpn_machine.specs.Changes.{IsChannelAt};
 ghost use Rattle.kpn_machine.specs.Due.{Stands, ReadsFrom, WritesTo};
 ghost use Rattle.kpn_book.specs.Schedule.{HoldsFirst, first_held};
 ghost use Rattle.kpn_book.specs.declared.open_book.ahead.TheConstants.{LONGEST_TURN};
@@ -15,12 +16,12 @@ ghost use Rattle.kpn_book.specs.Commits.{IsReadFrom, IsWriteTo};
 ghost use Rattle.kpn_book.specs.GoingOn.{RunsInAnyOrder, AnyOrderInVain};
 ghost use Rattle.kpn_book.specs.InARow.{StepsUncommitted};
 ghost use Rattle.kpn_book.specs.Kept.{IsKept};
-ghost use Rattle.kpn_book.specs.Open.{book_of, first_claimed, MayCommit, StaysFirst, HandlesAhead, GoesFurther};
+ghost use Rattle.kpn_book.specs.Open.{book_of, first_claimed, MayCommit, StaysFirst, HasProgramAndPorts, HandlesAhead, GoesFurther};
 
 use super::turns::{if_sink, is_open};
 use super::{Hold, OpenBook, wake};
 use kpn_chan::Channel;
-use kpn_machine::{in_channel, out_channel};
+use kpn_lang::Program;
 use kpn_step::Stop;
 use std::alloc::{AllocError, Allocator};
 
@@ -80,25 +81,33 @@ impl<'n, A: Allocator> OpenBook<'n, A> {
         ensures held { held_count (book_of self.new) ≡ held_count (book_of self.old) }
         ensures kept { IsKept (book_of self.new) }
     {
+        let network = self.network;
+        network.known();
+        self.schedule.known();
+        let program = network.program(p);
+        let ins = network.ins(p);
+        let outs = network.outs(p);
         'events: for made in 0..most {
-            let ended = self.event_ahead(p, quota, made)?;
+            let ended = self.event_ahead(program, ins, outs, p, quota, made)?;
             if let Some(sink) = ended {
                 return Ok(sink);
             }
         }
-        self.network.known();
         self.schedule.known();
         self.schedule.rotate(p);
         Ok(None)
     }
 
-    /// Process `p`, which is the first of the queue, makes at most `quota` steps, and then a get or put, if it can at
-    /// once. It stays the first, and its turn goes on. It ends with the put on a sink, which is returned, or a put that
-    /// fills its channel. It also ends if `p` can't: if it has `made` none in this turn or pauses, it is committed.
-    /// Otherwise it goes to the tail of the queue.
+    /// Process `p`, which is the first of the queue and has this program and these ports, makes at most `quota` steps,
+    /// and then a get or put, if it can at once. It stays the first, and its turn goes on. It ends with the put on a
+    /// sink, which is returned, or a put that fills its channel. It also ends if `p` can't: if it has `made` none in
+    /// this turn or pauses, it is committed. Otherwise it goes to the tail of the queue.
     #[inline(always)]
     fn event_ahead(
         &mut self,
+        program: &Program,
+        ins: &[usize],
+        outs: &[usize],
         p: usize,
         quota: u32,
         made: u64,
@@ -107,6 +116,7 @@ impl<'n, A: Allocator> OpenBook<'n, A> {
         A: Copy,
         requires kept { IsKept (book_of self.old) }
         requires first { slice_get self.old.schedule.queue 0 ≡ Some p }
+        requires own { HasProgramAndPorts self.old.network.now p program.now ins.now outs.now }
         requires countable { self.old.commits + held_count (book_of self.old) + 1 < 2 ^ 64 }
         requires room { 2 ≤ self.old.history.room }
         ensures goes { IfOk result (λ ended.
@@ -118,8 +128,8 @@ impl<'n, A: Allocator> OpenBook<'n, A> {
         let network = self.network;
         network.known();
         self.schedule.known();
-        let (_, stop) = self.machine.step(network, p, quota);
-        let Some(exchanged) = self.exchange(p, stop) else {
+        let (_, stop) = self.machine.step(network, program, p, quota);
+        let Some(exchanged) = self.exchange(program, ins, outs, p, stop) else {
             if made == 0 || is_pause(stop) {
                 let sink = self.handle_first(p, stop)?;
                 self.commits += 1;
@@ -143,7 +153,15 @@ impl<'n, A: Allocator> OpenBook<'n, A> {
     /// Process `p`, which is the first of the queue, makes the get or put of this stop, if it can at once. It stays the
     /// first.
     #[inline(always)]
-    fn exchange(&mut self, p: usize, stop: Stop) -> Option<Exchanged>
+    fn exchange(
+        &mut self,
+        program: &Program,
+        ins: &[usize],
+        outs: &[usize],
+        p: usize,
+        stop: Stop,
+    ) -> Option<Exchanged>
+        requires own { HasProgramAndPorts self.old.network.now p program.now ins.now outs.now }
         requires first { HoldsFirst p self.old.schedule (first_held p self.old.schedule) }
         requires kept { IsKept (first_claimed p (book_of self.old)) }
         requires room { 2 ≤ self.old.history.room }
@@ -158,8 +176,8 @@ impl<'n, A: Allocator> OpenBook<'n, A> {
         network.known();
         match stop {
             Stop::WantRead(port) => {
-                let c = in_channel(network, p, port);
-                if !self.get_ahead(p, c) {
+                let c = port_channel(ins, port);
+                if !self.get_ahead(program, p, c) {
                     return None;
                 }
                 Some(Exchanged {
@@ -168,7 +186,7 @@ impl<'n, A: Allocator> OpenBook<'n, A> {
                 })
             }
             Stop::WantWrite(port, item) => {
-                let c = out_channel(network, p, port);
+                let c = port_channel(outs, port);
                 let fills = is_filled_by_one(self.machine.channel(c));
                 if !self.put_ahead(p, c, item) {
                     return None;
@@ -182,7 +200,8 @@ impl<'n, A: Allocator> OpenBook<'n, A> {
 
     /// Process `p`, which is the first of the queue and at a read from channel `c`, gets its next item, if it has one.
     #[inline(always)]
-    fn get_ahead(&mut self, p: usize, c: usize) -> bool
+    fn get_ahead(&mut self, program: &Program, p: usize, c: usize) -> bool
+        requires program { program.now ≡ program_of self.old.network.now p }
         requires may { MayCommit hold.First p self.old }
         requires reads { ReadsFrom self.old.network.now self.old.machine p c }
         ensures got { let t = self.old.network.now in result ≡ true → (v : ℤ)
@@ -194,7 +213,7 @@ impl<'n, A: Allocator> OpenBook<'n, A> {
         if !self.machine.has_item(c) {
             return false;
         }
-        let got = self.get_item(Hold::First, p, c);
+        let got = self.get_item(Hold::First, program, p, c);
         wake(&mut self.schedule, got.woken);
         true
     }
@@ -220,11 +239,20 @@ impl<'n, A: Allocator> OpenBook<'n, A> {
     }
 }
 
+/// The channel at a port.
+#[inline(always)]
+fn port_channel(ports: &[usize], port: usize) -> usize
+    requires { port < length ports.now }
+    ensures { IsChannelAt ports.now port result }
+{
+    ports[port]
+}
+
 /// Whether one item more fills a channel.
 #[inline(always)]
 fn is_filled_by_one<A: Allocator>(channel: &Channel<A>) -> bool {
     match channel.cap() {
-        Some(capacity) => capacity as usize <= channel.len().saturating_add(1),
+        Some(capacity) => capacity as usize <= channel.len().wrapping_add(1),
         None => false,
     }
 }

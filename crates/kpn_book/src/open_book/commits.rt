@@ -24,6 +24,7 @@ use super::{Hold, OpenBook, number, wake};
 use crate::answers::Done;
 use crate::schedule::Schedule;
 use kpn_history::{Event, How, State};
+use kpn_lang::Program;
 use kpn_machine::{Got, in_channel, out_channel};
 use kpn_step::Stop;
 use std::alloc::{AllocError, Allocator};
@@ -99,16 +100,17 @@ impl<'n, A: Allocator> OpenBook<'n, A> {
         if !self.machine.has_item(c) {
             return self.wait_on_empty(hold, p, c);
         }
-        let got = self.get_item(hold, p, c);
+        let got = self.get_item(hold, network.program(p), p, c);
         go_on(&mut self.schedule, hold, p, got.woken);
         Done::Got(got.item)
     }
 
-    /// Process `p` gets the next item of channel `c`, at a read from which it is. The schedule stays: that `p` and the
-    /// process that this wakes are ready is left to the caller.
+    /// Process `p`, which has this program, gets the next item of channel `c`, at a read from which it is. The schedule
+    /// stays: that `p` and the process that this wakes are ready is left to the caller.
     #[inline(always)]
-    pub(super) fn get_item(&mut self, hold: Hold, p: usize, c: usize) -> Got
+    pub(super) fn get_item(&mut self, hold: Hold, program: &Program, p: usize, c: usize) -> Got
         requires may { MayCommit hold p self.old }
+        requires program { program.now ≡ program_of self.old.network.now p }
         requires reads { ReadsFrom self.old.network.now self.old.machine p c }
         requires item { IsSome (next_item (channel_in self.old.machine c)) }
         ensures { let t = self.old.network.now in
@@ -116,7 +118,7 @@ impl<'n, A: Allocator> OpenBook<'n, A> {
     {
         let network = self.network;
         network.known();
-        let got = self.machine.get(network, p, c);
+        let got = self.machine.get(network, program, p, c);
         self.history
             .push(Event::Get(number(p), number(c), got.item));
         got

@@ -74,7 +74,7 @@ impl<'n, A: Allocator> OpenBook<'n, A> {
         let network = self.network;
         network.known();
         self.schedule.known();
-        let (_, stop) = self.machine.step(network, p, quota);
+        let (_, stop) = self.machine.step(network, network.program(p), p, quota);
         let sink = self.handle_first(p, stop)?;
         self.commits += 1;
         self.schedule.known();

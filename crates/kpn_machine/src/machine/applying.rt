@@ -82,7 +82,8 @@ impl<A: Allocator + Copy> Machine<A> {
     {
         match event {
             Event::Get(p, c, _) => {
-                self.get(network, p.into(), c.into());
+                let program = network.program(p.into());
+                self.get(network, program, p.into(), c.into());
                 Ok(())
             }
             Event::Put(p, c, item) => {

@@ -8,7 +8,7 @@ ghost use Rattle.kpn_chan.specs.Channel.{unread, is_channel_full, next_item};
 ghost use Rattle.kpn_net.specs.Waits.{AreWaits};
 ghost use Rattle.kpn_history.specs.declared.event.Event.{Event};
 ghost use Rattle.kpn_history.specs.declared.event.Event.TheVariants as event;
-ghost use Rattle.kpn_net.specs.Tables.{instance_at};
+ghost use Rattle.kpn_net.specs.Tables.{instance_at, program_of};
 ghost use Rattle.kpn_history.specs.Stops.{OwesNothing};
 ghost use Rattle.kpn_machine.specs.Machine.{Machine as Seen, channel_in, IsMachine, IsFree};
 ghost use Rattle.kpn_machine.specs.Run.{IsRun};
@@ -20,6 +20,7 @@ ghost use Rattle.kpn_machine.specs.EndSoFar.{EndSoFar};
 use super::Machine;
 use arrayvec::ArrayVec;
 use kpn_history::How;
+use kpn_lang::Program;
 use kpn_limits::MAX_PORTS;
 use kpn_net::Network;
 use std::alloc::Allocator;
@@ -32,11 +33,12 @@ pub struct Got {
 }
 
 impl<A: Allocator> Machine<A> {
-    /// Process `p`, which is at a read from channel `c`, gets the next item of the channel.
+    /// Process `p`, which has this program and is at a read from channel `c`, gets the next item of the channel.
     #[inline(always)]
-    pub fn get(&mut self, network: &Network, p: usize, c: usize) -> Got
+    pub fn get(&mut self, network: &Network, program: &Program, p: usize, c: usize) -> Got
         requires shape { IsMachine network.now self.old }
         requires process { p < length network.now.instances }
+        requires program { program.now ≡ program_of network.now p }
         requires free { IsFree self.old p }
         requires reads { ReadsFrom network.now self.old p c }
         requires ready { IsSome (next_item (channel_in self.old c)) }
@@ -55,7 +57,7 @@ impl<A: Allocator> Machine<A> {
             unreachable!();
         };
         let frame = &mut self.frames[p];
-        frame.pass_read(network.program(p), item);
+        frame.pass_read(program, item);
         let woken = self.waits.wake_writer(network, c);
         Got { item, woken }
     }

@@ -8,16 +8,26 @@ ghost use Rattle.kpn_machine.specs.Run.{IsRun};
 ghost use Rattle.kpn_machine.specs.Due.{Stands};
 
 use super::Machine;
+use kpn_lang::Program;
 use kpn_net::Network;
 use kpn_step::{Frame, Stop};
 use std::alloc::Allocator;
 
 impl<A: Allocator> Machine<A> {
-    /// Makes at most `quota` steps of process `p` from its frame on. It returns how many, and the stop after them.
+    /// Makes at most `quota` steps of process `p`, which has this program, from its frame on. It returns how many, and
+    /// the stop after them.
+    // A caller that makes many calls looks up the program once.
     #[inline(always)]
-    pub fn step(&mut self, network: &Network, p: usize, quota: u32) -> (u32, Stop)
+    pub fn step(
+        &mut self,
+        network: &Network,
+        program: &Program,
+        p: usize,
+        quota: u32,
+    ) -> (u32, Stop)
         requires shape { IsMachine network.now self.old }
         requires process { p < length network.now.instances }
+        requires program { program.now ≡ program_of network.now p }
         ensures advance { let t = network.now in
             IsAdvance (advanced_of (program_of t p)
             (frame_in self.old p) (frame_in self.new p) result.0 result.1) }
@@ -30,8 +40,10 @@ impl<A: Allocator> Machine<A> {
         ensures run { (H : List Event) → IsRun network.now H self.old
             → IsRun network.now H self.new }
     {
+        // Only the contract names the network.
+        let _network = network;
         let frame = &mut self.frames[p];
-        frame.run(network.program(p), quota)
+        frame.run(program, quota)
     }
 
     /// Takes process `p` to this frame, the end of this many steps from its own, and their stop.

@@ -1,7 +1,7 @@
 use Rattle.kpn_book.proofs.Common.{◌≡◌, ◌≢◌, ◌+◌, ◌<◌, ◌^◌, ℕ, false, slice_get, Option, Some, None, refl, sym, ap, subst, ◌∙◌, arith, rules, program_of, Advanced, IsAtPort, advanced_of, Frame, frame_in, Schedule, HoldsFirst, first_held, made_ready, Book, with_one_commit, IsKept, IsBook, StepsUncommitted, IsReordered, book_of, first_claimed, HandlesFirst, HandlesAhead, IsTurnAhead, GoesFurther}
 use Rattle.kpn_step.specs.declared.stop.Stop.TheVariants.{Paused}
 use Rattle.kpn_book.proofs.Following.{moved}
-use Rattle.kpn_book.proofs.FirstOfQueue.{holds_first, first_kept, kept_in_vain, turn_in_vain, refused_with, turn_fits, turn_made}
+use Rattle.kpn_book.proofs.FirstOfQueue.{holds_first, first_there, first_kept, kept_in_vain, turn_in_vain, refused_with, turn_fits, turn_made}
 use Rattle.kpn_book.proofs.GoingOn.{goes_back, ahead_made, ahead_schedule, ahead_first, ahead_fits, no_sink, further_on, over_at_sink, over_filled, over_committed, over_idly}
 use Rattle.kpn_book.proofs.open_book.OpenBook.event_ahead.Given as given
 use Rattle.kpn_book.proofs.open_book.OpenBook.event_ahead.Goals as goal
@@ -81,10 +81,7 @@ module _ (g : given.Over) (c : After-step-stop g) where
 
 pub step-stop-requires-clause-process : goal.step-stop-requires-clause-process
 step-stop-requires-clause-process g c =
-    let b = book_of c.args.self.now in
-    let there = (holds_first b.schedule c.known-2.ensures.schedule c.args.p c.requires.first).there in
-    let long = c.requires.kept.in_step.processes in
-    omega (arith, there, long)
+    first_there (book_of c.args.self.now) c.args.p c.known-2.ensures.schedule c.requires.kept c.requires.first
 
 pub exchange-requires-clause-first : goal.exchange-requires-clause-first
 exchange-requires-clause-first g c = holds g (goal.at.exchange-requires-clause-first g c).After-step-stop

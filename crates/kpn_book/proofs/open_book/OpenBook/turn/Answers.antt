@@ -1,13 +1,14 @@
 use Rattle.kpn_book.proofs.Common.{◌+◌, ◌<◌, ◌^◌, refl, sym, subst, arith, rules, program_of, advanced_of, frame_in, IsKept, book_of, StepsUncommitted}
-use Rattle.kpn_book.proofs.FirstOfQueue.{holds_first, first_kept, kept_in_vain, turn_in_vain, refused_with, turn_fits, turn_made}
+use Rattle.kpn_book.proofs.FirstOfQueue.{holds_first, first_there, first_kept, kept_in_vain, turn_in_vain, refused_with, turn_fits, turn_made}
 use Rattle.kpn_book.proofs.open_book.OpenBook.turn.Goals as goal
 
 pub step-stop-requires-clause-process : goal.step-stop-requires-clause-process
 step-stop-requires-clause-process g c =
-    let b = book_of c.args.self.now in
-    let there = (holds_first b.schedule c.known-2.ensures.schedule c.args.p c.requires.first).there in
-    let long = c.requires.kept.in_step.processes in
-    omega (arith, there, long)
+    first_there (book_of c.args.self.now) c.args.p c.known-2.ensures.schedule c.requires.kept c.requires.first
+
+pub program-requires : goal.program-requires
+program-requires g c =
+    first_there (book_of c.args.self.now) c.args.p c.known-2.ensures.schedule c.requires.kept c.requires.first
 
 pub handle_first-requires-clause-first : goal.handle_first-requires-clause-first
 handle_first-requires-clause-first g c =

@@ -1,21 +1,41 @@
-use Rattle.kpn_book.proofs.Common.{◌≡◌, None, refl, ap, subst, ◌∙◌, arith, inl, inr, cases_eq, held_count, IsBook, book_of, GoesFurther}
+use Rattle.kpn_book.proofs.Common.{◌≡◌, None, refl, sym, ap, subst, ◌∙◌, arith, inl, inr, cases_eq, IsNetwork, held_count, IsBook, book_of, GoesFurther}
+use Rattle.kpn_book.specs.Open.{HasProgramAndPorts}
 use Rattle.kpn_book.specs.GoingOn.{no_turn, another_order, steps_on, IsReordered}
-use Rattle.kpn_book.proofs.FirstOfQueue.{holds_first, refused_with}
+use Rattle.kpn_book.proofs.FirstOfQueue.{holds_first, first_there, refused_with}
 use Rattle.kpn_book.proofs.Following.{moved}
 use Rattle.kpn_book.proofs.GoingOn.{goes_back, and_then}
 use Rattle.kpn_book.proofs.open_book.OpenBook.turn_ahead.Given as given
 use Rattle.kpn_book.proofs.open_book.OpenBook.turn_ahead.Goals as goal
 use Rattle.kpn_book.proofs.open_book.OpenBook.turn_ahead.Goals.{After-rotate}
 
+pub program-requires : goal.program-requires
+program-requires g c =
+    first_there (book_of c.args.self.now) c.args.p c.known-2.ensures.schedule c.requires.kept c.requires.first
+
+pub ins-requires : goal.ins-requires
+ins-requires g c =
+    first_there (book_of c.args.self.now) c.args.p c.known-2.ensures.schedule c.requires.kept c.requires.first
+
+pub outs-requires : goal.outs-requires
+outs-requires g c =
+    first_there (book_of c.args.self.now) c.args.p c.known-2.ensures.schedule c.requires.kept c.requires.first
+
 pub events-init : goal.events-init
 events-init g c = record {
   turns = no_turn;
+  tables = refl;
   kept = c.requires.kept;
   held = refl;
   commits = omega arith;
   first = c.requires.first;
   room = let room = c.requires.room in omega (arith, room);
 }
+
+pub event_ahead-requires-clause-own : goal.event_ahead-requires-clause-own
+event_ahead-requires-clause-own g c =
+    subst (λ t. HasProgramAndPorts t c.args.p c.program.result.now c.ins.result.now c.outs.result.now)
+    (sym c.events.invariant.tables)
+    (record { program = c.program.ensures; ins = c.ins.ensures; outs = c.outs.ensures })
 
 pub returns-in_err-ended-clause-in_vain : goal.returns-in_err-ended-clause-in_vain
 returns-in_err-ended-clause-in_vain g c =
@@ -65,6 +85,7 @@ events-preserved g c =
     let one = on.1 in
     record {
       turns = and_then c.args.quota first now None after c.events.invariant.turns goes.turns;
+      tables = goes.tables ∙ c.events.invariant.tables;
       kept = c.in_ok-ended.ensures.kept;
       held = goes.held ∙ c.events.invariant.held;
       commits = omega (arith, commits, one);
@@ -80,9 +101,13 @@ order : (g : given.Over) (c : After-rotate g)
 order g c =
     let now = book_of c.events.self in
     let is : IsBook now =
-    record { network = c.known.ensures; schedule = c.known-2.ensures.schedule; kept = c.events.invariant.kept } in
+    record {
+      network = subst IsNetwork (sym c.events.invariant.tables) c.known.ensures;
+      schedule = c.known-3.ensures.schedule;
+      kept = c.events.invariant.kept;
+    } in
     goes_back now c.args.p is
-    (holds_first now.schedule c.known-2.ensures.schedule c.args.p c.events.invariant.first) c.events.invariant.first
+    (holds_first now.schedule c.known-3.ensures.schedule c.args.p c.events.invariant.first) c.events.invariant.first
     c.rotate.new.self c.rotate.ensures
 
 pub returns-clause-goes : goal.returns-clause-goes

@@ -28,7 +28,7 @@ pass_read-requires-clause-fits g c =
     element c.self.inside.frames.items s.frames c.args.p c.index_mut-frame.result.now no_frame
     (ap (λ x. x.frames) c.self.view_is) (omega (arith, c.requires.process, c.requires.shape.frames))
     c.index_mut-frame.ensures.value in
-    subst (λ x. IsTrue (fits x c.index_mut-frame.result.now)) (sym c.program.ensures)
+    subst (λ x. IsTrue (fits x c.index_mut-frame.result.now)) (sym c.requires.program)
     (subst (λ f. IsTrue (fits (program_of c.args.network.now c.args.p) f)) (sym frame)
     (c.requires.shape.fit c.args.p c.requires.process))
 
@@ -40,7 +40,7 @@ pass_read-requires-clause-read g c =
     element c.self.inside.frames.items s.frames c.args.p c.index_mut-frame.result.now no_frame
     (ap (λ x. x.frames) c.self.view_is) (omega (arith, c.requires.process, c.requires.shape.frames))
     c.index_mut-frame.ensures.value in
-    subst (λ x. StandsAtRead x.blocks c.index_mut-frame.result.now) (sym c.program.ensures)
+    subst (λ x. StandsAtRead x.blocks c.index_mut-frame.result.now) (sym c.requires.program)
     (subst (StandsAtRead (program_of t c.args.p).blocks) (sym frame)
     (at_read t c.known.ensures s c.args.p c.requires.process c.args.c c.requires.reads))
 
@@ -96,8 +96,8 @@ returns g c =
     let keep = subst (λ x. IsTrue x.is_reserved → IsTrue ch.is_reserved) value c.get.ensures.reserved in
     let next = ap next_item (sym value) ∙ sym c.get.ensures.item ∙ c.in-Some.is ∙ ap Some stored in
     let given =
-    subst (λ x. IsGiven x.blocks (frame_in s c.args.p) item to) c.program.ensures
-    (subst (λ f. IsGiven c.program.result.now.blocks f item to) frame
+    subst (λ x. IsGiven x.blocks (frame_in s c.args.p) item to) c.requires.program
+    (subst (λ f. IsGiven c.args.program.now.blocks f item to) frame
     c.pass_read.ensures.passed) in
     let same = ap (λ x. x.waits) c.self.view_is in
     let woke =

@@ -17,20 +17,20 @@ returns g c =
     let moved =
     ap (λ x. frame_in x p) after ∙ frame_in-same s p to (omega (arith, c.requires.process, c.requires.shape.frames)) in
     let advance =
-    advanced_as IsAdvance c.program.result.now (program_of t p) c.index_mut-frame.result.now (frame_in s p) to to
-    c.run.result.0 c.run.result.1 c.program.ensures frame refl c.run.ensures.advance in
+    advanced_as IsAdvance c.args.program.now (program_of t p) c.index_mut-frame.result.now (frame_in s p) to to
+    c.run.result.0 c.run.result.1 c.requires.program frame refl c.run.ensures.advance in
     record {
       advance =
           subst (λ f. IsAdvance (advanced_of (program_of t p) (frame_in s p) f c.run.result.0 c.run.result.1))
           (sym moved)
           advance;
       quota =
-          advanced_as (λ a. IsWithinQuota c.args.quota a) c.program.result.now (program_of t p)
-          c.index_mut-frame.result.now (frame_in s p) to _ c.run.result.0 c.run.result.1 c.program.ensures frame
+          advanced_as (λ a. IsWithinQuota c.args.quota a) c.args.program.now (program_of t p)
+          c.index_mut-frame.result.now (frame_in s p) to _ c.run.result.0 c.run.result.1 c.requires.program frame
           (sym moved) c.run.ensures.quota;
       port =
           subst (λ f. IsAtPort (program_of t p) f c.run.result.1) (sym moved)
-          (subst (λ x. IsAtPort x to c.run.result.1) c.program.ensures c.run.ensures.port);
+          (subst (λ x. IsAtPort x to c.run.result.1) c.requires.program c.run.ensures.port);
       after = after ∙ ap (λ f. with_frame p f s) (sym moved);
       shape =
           subst (λ x. IsMachine t x) (sym after)
