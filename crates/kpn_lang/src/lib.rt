@@ -25,7 +25,7 @@ pub use celled::{Celled, Put};
 pub use chain::Chain;
 pub use code::{Code, Round, Ways};
 pub use codes::Coded;
-pub use course::{Course, Step};
+pub use course::{Course, Path, Step};
 pub use formula::{
     Below, Difference, Equal, Formula, IsRest, Product, ProductRest, Remainder, Rest, RestSum, Sum,
 };
