@@ -2,6 +2,7 @@ pub mod Common
 pub mod Alike
 pub mod Cells
 pub mod Chains
+pub mod Courses
 pub mod Families
 pub mod Following
 pub mod Further

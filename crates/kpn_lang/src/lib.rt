@@ -6,9 +6,11 @@ mod celled;
 mod chain;
 mod code;
 mod codes;
+mod course;
 mod formula;
 pub mod laws;
 mod link;
+mod operand;
 mod plain;
 mod program;
 mod remainder;
@@ -17,17 +19,18 @@ mod spine;
 mod start;
 mod syntax;
 mod talk;
-mod tap;
 mod value;
 
-pub use celled::{Celled, Pick, Put};
+pub use celled::{Celled, Put};
 pub use chain::Chain;
 pub use code::{Code, Round, Ways};
 pub use codes::Coded;
+pub use course::{Course, Path, Step};
 pub use formula::{
     Below, Difference, Equal, Formula, IsRest, Product, ProductRest, Remainder, Rest, RestSum, Sum,
 };
 pub use link::Link;
+pub use operand::{Operand, Pick};
 pub use plain::{Run, run_alone};
 pub use program::{Program, ProgramFault, same};
 pub use sequence::{Sequence, next_item};
@@ -35,5 +38,4 @@ pub use spine::{Links, Spine};
 pub use start::Start;
 pub use syntax::{BlockId, Expr, Op, Stmt};
 pub use talk::{Ending, Said};
-pub use tap::{Index, Spot, Tap};
 pub use value::{Fault, eval, eval_in, index_in};

@@ -17,17 +17,19 @@ use Rattle.kpn_lang.proofs.syntax.Op.TheSendSync as op
 use Rattle.kpn_lang.proofs.start.Start.TheSendSync as start
 use Rattle.kpn_lang.proofs.link.Link.TheSendSync as link
 use Rattle.kpn_lang.proofs.code.Round.TheSendSync as round
-use Rattle.kpn_lang.proofs.tap.Tap.TheSendSync as tap
 use Rattle.kpn_lang.proofs.spine.Links.TheLaws.TheKnot.{crosses as links_cross}
+use Rattle.kpn_lang.proofs.course.Course.TheLaws.TheKnot.{crosses as courses_cross}
 use Rattle.kpn_lang.proofs.syntax.Expr.TheLaws.TheKnot.{crosses as trees_cross}
 use Rattle.kpn_lang.specs.contracts.syntax.Expr as Expr
 use Rattle.kpn_lang.specs.contracts.syntax.Stmt as Stmt
 use Rattle.kpn_lang.specs.contracts.chain.Chain as Chain
 use Rattle.kpn_lang.specs.contracts.celled.Celled as Celled
-use Rattle.kpn_lang.specs.contracts.celled.Pick as Pick
 use Rattle.kpn_lang.specs.contracts.celled.Put as Put
 use Rattle.kpn_lang.specs.contracts.code.Code as Code
 use Rattle.kpn_lang.specs.contracts.codes.Coded as Coded
+use Rattle.kpn_lang.specs.contracts.course.Course as Course
+use Rattle.kpn_lang.specs.contracts.operand.Operand as Operand
+use Rattle.kpn_lang.specs.contracts.operand.Pick as Pick
 use Rattle.kpn_lang.specs.contracts.spine.Links as Links
 use Rattle.kpn_lang.specs.contracts.spine.Spine as Spine
 use Rattle.kpn_lang.specs.contracts.program.Program as Program
@@ -67,12 +69,20 @@ chain_sync =
 pick_sync : IsSync Pick.the_field.row
 pick_sync = let chains = chain_sync in search (crosses, sendable) depth 40
 
+operand_sync : IsSync Operand.the_field.row
+operand_sync = let chains = chain_sync in let picks = pick_sync in search (crosses, sendable) depth 40
+
+course_sync : IsSync Course.the_field.row
+course_sync =
+    let operands = operand_sync in
+    search (op.the_field_sync, link.the_field_sync, courses_cross, crosses, sendable) depth 40
+
 celled_sync : IsSync Celled.the_field.row
 celled_sync =
-    let chains = chain_sync in
-    let picks = pick_sync in
+    let operands = operand_sync in
+    let courses = course_sync in
     let trees = tree_sync in
-    search (tap.the_field_sync, crosses, sendable) depth 40
+    search (crosses, sendable) depth 40
 
 put_sync : IsSync Put.the_field.row
 put_sync = let picks = pick_sync in let items = celled_sync in search (crosses, sendable) depth 40
