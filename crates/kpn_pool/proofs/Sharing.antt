@@ -28,6 +28,8 @@ use Rattle.kpn_lang.specs.contracts.celled.Put as Put
 use Rattle.kpn_lang.specs.contracts.code.Code as Code
 use Rattle.kpn_lang.specs.contracts.codes.Coded as Coded
 use Rattle.kpn_lang.specs.contracts.course.Course as Course
+use Rattle.kpn_lang.specs.contracts.course.Path as Path
+use Rattle.kpn_lang.specs.contracts.course.Step as Step
 use Rattle.kpn_lang.specs.contracts.operand.Operand as Operand
 use Rattle.kpn_lang.specs.contracts.operand.Pick as Pick
 use Rattle.kpn_lang.specs.contracts.spine.Links as Links
@@ -72,17 +74,22 @@ pick_sync = let chains = chain_sync in search (crosses, sendable) depth 40
 operand_sync : IsSync Operand.the_field.row
 operand_sync = let chains = chain_sync in let picks = pick_sync in search (crosses, sendable) depth 40
 
+step_sync : IsSync Step.the_field.row
+step_sync =
+    let operands = operand_sync in
+    search (op.the_field_sync, link.the_field_sync, crosses, sendable) depth 40
+
 course_sync : IsSync Course.the_field.row
 course_sync =
     let operands = operand_sync in
-    search (op.the_field_sync, link.the_field_sync, courses_cross, crosses, sendable) depth 40
+    let steps = step_sync in
+    search (op.the_field_sync, courses_cross, crosses, sendable) depth 40
+
+path_sync : IsSync Path.the_field.row
+path_sync = let operands = operand_sync in let courses = course_sync in search (crosses, sendable) depth 40
 
 celled_sync : IsSync Celled.the_field.row
-celled_sync =
-    let operands = operand_sync in
-    let courses = course_sync in
-    let trees = tree_sync in
-    search (crosses, sendable) depth 40
+celled_sync = let paths = path_sync in let trees = tree_sync in search (crosses, sendable) depth 40
 
 put_sync : IsSync Put.the_field.row
 put_sync = let picks = pick_sync in let items = celled_sync in search (crosses, sendable) depth 40
