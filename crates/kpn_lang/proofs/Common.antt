@@ -19,7 +19,7 @@ pub use Rattle.kpn_limits.specs.declared.TheConstants.{MAX_CELLS, MAX_LEVELS, MA
 pub use Rattle.kpn_lang.specs.Alone.{CanSay, ComesTo, Process, alone, got_at, put_at, start_of}
 pub use Rattle.kpn_lang.specs.Coding.{AreCoded, AreCodes, AreLaid, HasCodes, IsCoded}
 pub use Rattle.kpn_lang.specs.Counting.{budget_after, count_through}
-pub use Rattle.kpn_lang.specs.Flat.{AddTo, Complement, Invert, IsCelled, IsCourse, IsOperand, IsStep, MulBy, Negate, Operation, SubFrom, With, celled_term, chain_term, followed, linked, once, operand_term, operated, operation_of, pick_term, result_with, start_term, stepped}
+pub use Rattle.kpn_lang.specs.Flat.{AddTo, AreStages, Complement, Invert, IsCelled, IsOperand, IsStage, MulBy, Negate, Operation, SubFrom, With, celled_term, chain_term, followed, linked, once, operand_term, operated, operation_of, pick_term, result_with, staged, start_term}
 pub use Rattle.kpn_lang.specs.Laws.{BeginsWithGot, EndsAlike, GoesOn, Grows, IsFinal, IsSequential}
 pub use Rattle.kpn_lang.specs.Lists.{next_at, remaining, without_next}
 pub use Rattle.kpn_lang.specs.Parts.{IsProgram, Parts, children, depth, each_statement, expressions, first_fault, inner_blocks, is_in_order, is_there, is_too_large, is_within, lacks_a_block, names_from, names_its_own, names_ports_below, names_there, nests_too_deep, nodes, order_to, statement_nodes}

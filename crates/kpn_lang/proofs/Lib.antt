@@ -2,13 +2,13 @@ pub mod Common
 pub mod Alike
 pub mod Cells
 pub mod Chains
-pub mod Courses
 pub mod Families
 pub mod Following
 pub mod Further
 pub mod Interpreting
 pub mod Laying
 pub mod Pairs
+pub mod Paths
 pub mod Picked
 pub mod Prefixes
 pub mod Processes

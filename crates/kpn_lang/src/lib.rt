@@ -6,11 +6,11 @@ mod celled;
 mod chain;
 mod code;
 mod codes;
-mod course;
 mod formula;
 pub mod laws;
 mod link;
 mod operand;
+mod path;
 mod plain;
 mod program;
 mod remainder;
@@ -25,12 +25,12 @@ pub use celled::{Celled, Put};
 pub use chain::Chain;
 pub use code::{Code, Round, Ways};
 pub use codes::Coded;
-pub use course::{Course, Path, Step};
 pub use formula::{
     Below, Difference, Equal, Formula, IsRest, Product, ProductRest, Remainder, Rest, RestSum, Sum,
 };
 pub use link::Link;
 pub use operand::{Operand, Pick};
+pub use path::{Path, Stage, Stages};
 pub use plain::{Run, run_alone};
 pub use program::{Program, ProgramFault, same};
 pub use sequence::{Sequence, next_item};

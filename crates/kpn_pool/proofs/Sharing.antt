@@ -18,7 +18,7 @@ use Rattle.kpn_lang.proofs.start.Start.TheSendSync as start
 use Rattle.kpn_lang.proofs.link.Link.TheSendSync as link
 use Rattle.kpn_lang.proofs.code.Round.TheSendSync as round
 use Rattle.kpn_lang.proofs.spine.Links.TheLaws.TheKnot.{crosses as links_cross}
-use Rattle.kpn_lang.proofs.course.Course.TheLaws.TheKnot.{crosses as courses_cross}
+use Rattle.kpn_lang.proofs.path.Stages.TheLaws.TheKnot.{crosses as stages_cross}
 use Rattle.kpn_lang.proofs.syntax.Expr.TheLaws.TheKnot.{crosses as trees_cross}
 use Rattle.kpn_lang.specs.contracts.syntax.Expr as Expr
 use Rattle.kpn_lang.specs.contracts.syntax.Stmt as Stmt
@@ -27,7 +27,9 @@ use Rattle.kpn_lang.specs.contracts.celled.Celled as Celled
 use Rattle.kpn_lang.specs.contracts.celled.Put as Put
 use Rattle.kpn_lang.specs.contracts.code.Code as Code
 use Rattle.kpn_lang.specs.contracts.codes.Coded as Coded
-use Rattle.kpn_lang.specs.contracts.course.Course as Course
+use Rattle.kpn_lang.specs.contracts.path.Stages as Stages
+use Rattle.kpn_lang.specs.contracts.path.Path as Path
+use Rattle.kpn_lang.specs.contracts.path.Stage as Stage
 use Rattle.kpn_lang.specs.contracts.operand.Operand as Operand
 use Rattle.kpn_lang.specs.contracts.operand.Pick as Pick
 use Rattle.kpn_lang.specs.contracts.spine.Links as Links
@@ -72,17 +74,22 @@ pick_sync = let chains = chain_sync in search (crosses, sendable) depth 40
 operand_sync : IsSync Operand.the_field.row
 operand_sync = let chains = chain_sync in let picks = pick_sync in search (crosses, sendable) depth 40
 
-course_sync : IsSync Course.the_field.row
-course_sync =
+stage_sync : IsSync Stage.the_field.row
+stage_sync =
     let operands = operand_sync in
-    search (op.the_field_sync, link.the_field_sync, courses_cross, crosses, sendable) depth 40
+    search (op.the_field_sync, link.the_field_sync, crosses, sendable) depth 40
+
+stages_sync : IsSync Stages.the_field.row
+stages_sync =
+    let operands = operand_sync in
+    let stages = stage_sync in
+    search (op.the_field_sync, stages_cross, crosses, sendable) depth 40
+
+path_sync : IsSync Path.the_field.row
+path_sync = let operands = operand_sync in let stages = stages_sync in search (crosses, sendable) depth 40
 
 celled_sync : IsSync Celled.the_field.row
-celled_sync =
-    let operands = operand_sync in
-    let courses = course_sync in
-    let trees = tree_sync in
-    search (crosses, sendable) depth 40
+celled_sync = let paths = path_sync in let trees = tree_sync in search (crosses, sendable) depth 40
 
 put_sync : IsSync Put.the_field.row
 put_sync = let picks = pick_sync in let items = celled_sync in search (crosses, sendable) depth 40
