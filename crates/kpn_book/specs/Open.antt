@@ -253,9 +253,9 @@ pub record HandlesAhead (p : ℕ) (s : Stop) (sink : Option ℕ) (before after :
 
 -- process p has this program, and these channels at its ports
 pub record HasProgramAndPorts (t : Tables) (p : ℕ) (program : Parts) (ins outs : List ℕ) : Type 0 where
-  pub program : program ≡ program_of t p
-  pub ins : ins ≡ (instance_at t p).ins
-  pub outs : outs ≡ (instance_at t p).outs
+  pub runs : program ≡ program_of t p
+  pub reads : ins ≡ (instance_at t p).ins
+  pub writes : outs ≡ (instance_at t p).outs
 
 -- one turn in any order: a step of a row, after which the queue is in another order
 pub record IsTurnAhead (quota : ℕ) (sink : Option ℕ) (before after : Book) : Type 0 where

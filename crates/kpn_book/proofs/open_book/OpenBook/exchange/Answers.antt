@@ -31,10 +31,10 @@ port_channel-c-requires g c =
     c.requires.port.1 in
     let below = at.0 in
     let long = (IsInstance-of o.tables c.known.ensures c.args.p there).ins in
-    subst (λ l. c.in-WantRead.port < length l) (sym c.requires.own.ins) (omega (arith, below, long))
+    subst (λ l. c.in-WantRead.port < length l) (sym c.requires.own.reads) (omega (arith, below, long))
 
-pub port_channel-c-in-WantWrite-requires : goal.port_channel-c-in-WantWrite-requires
-port_channel-c-in-WantWrite-requires g c =
+pub port_channel-c-requires-in-WantWrite : goal.port_channel-c-requires-in-WantWrite
+port_channel-c-requires-in-WantWrite g c =
     let o = first_claimed c.args.p (book_of c.args.self.now) in
     let held = held_first (book_of c.args.self.now) c.args.p c.requires.first in
     let there = held_is_there o c.requires.kept.in_step c.args.p held in
@@ -42,7 +42,7 @@ port_channel-c-in-WantWrite-requires g c =
     subst (λ s. IsAtPort (program_of o.tables c.args.p) c.requires.port.0 s) c.in-WantWrite.is c.requires.port.1 in
     let below = at.0 in
     let long = (IsInstance-of o.tables c.known.ensures c.args.p there).outs in
-    subst (λ l. c.in-WantWrite.port < length l) (sym c.requires.own.outs) (omega (arith, below, long))
+    subst (λ l. c.in-WantWrite.port < length l) (sym c.requires.own.writes) (omega (arith, below, long))
 
 pub get_ahead-requires-clause-may : goal.get_ahead-requires-clause-may
 get_ahead-requires-clause-may g c = may g (goal.at.get_ahead-requires-clause-may g c).After-known
@@ -53,7 +53,7 @@ put_ahead-requires-clause-may g c = may g (goal.at.put_ahead-requires-clause-may
 pub get_ahead-requires-clause-reads : goal.get_ahead-requires-clause-reads
 get_ahead-requires-clause-reads g c =
     reads_from c.args.self.now.network.now c.args.self.now.machine c.args.p c.port_channel-c.result
-    c.in-WantRead.port c.args.stop c.in-WantRead.is (at_own c.requires.own.ins c.port_channel-c.ensures) c.requires.stands
+    c.in-WantRead.port c.args.stop c.in-WantRead.is (at_own c.requires.own.reads c.port_channel-c.ensures) c.requires.stands
 
 pub put_ahead-requires-clause-writes : goal.put_ahead-requires-clause-writes
 put_ahead-requires-clause-writes g c =
@@ -61,13 +61,13 @@ put_ahead-requires-clause-writes g c =
     let fits : SFits w64 v = search rules in
     writes_to c.args.self.now.network.now c.args.self.now.machine c.args.p c.port_channel-c-in-WantWrite.result
     c.in-WantWrite.port v (to_z w64 (of_z w64 v)) c.args.stop c.in-WantWrite.is (to_z-of_z w64 v fits)
-    (at_own c.requires.own.outs c.port_channel-c-in-WantWrite.ensures) c.requires.stands
+    (at_own c.requires.own.writes c.port_channel-c-in-WantWrite.ensures) c.requires.stands
 
 pub if_sink-sink-requires : goal.if_sink-sink-requires
 if_sink-sink-requires g c =
     let t = c.args.self.now.network.now in
     let outs = (instance_at t c.args.p).outs in
-    let at = at_own c.requires.own.outs c.port_channel-c-in-WantWrite.ensures in
+    let at = at_own c.requires.own.writes c.port_channel-c-in-WantWrite.ensures in
     out_is_there t c.known.ensures c.args.p c.port_channel-c-in-WantWrite.result
     (subst (λ x. Contains outs x) at.1 (Contains-get_or outs c.in-WantWrite.port 0 at.0))
 
@@ -96,7 +96,7 @@ returns-else-not-get_ahead-clause-goes g c =
               (λ s is. record {
                 port = c.in-WantRead.port;
                 asks = is ∙ c.in-WantRead.is;
-                channel = at_own c.requires.own.ins c.port_channel-c.ensures;
+                channel = at_own c.requires.own.reads c.port_channel-c.ensures;
               }) order.answered;
           sink_is = λ s is.
               sym (puts_on_none b.tables c.args.p (done.Got made.0)
@@ -126,7 +126,7 @@ returns-else-not-put_ahead-clause-goes g c =
           (λ s is. record {
             port = c.in-WantWrite.port;
             asks = is ∙ c.in-WantWrite.is;
-            channel = at_own c.requires.own.outs c.port_channel-c-in-WantWrite.ensures;
+            channel = at_own c.requires.own.writes c.port_channel-c-in-WantWrite.ensures;
           })
           (record {
             answer = done.Put;
@@ -141,7 +141,7 @@ pub channel-requires : goal.channel-requires
 channel-requires g c =
     let t = c.args.self.now.network.now in
     let outs = (instance_at t c.args.p).outs in
-    let at = at_own c.requires.own.outs c.port_channel-c-in-WantWrite.ensures in
+    let at = at_own c.requires.own.writes c.port_channel-c-in-WantWrite.ensures in
     let there =
     out_is_there t c.known.ensures c.args.p c.port_channel-c-in-WantWrite.result
     (subst (λ x. Contains outs x) at.1 (Contains-get_or outs c.in-WantWrite.port 0 at.0)) in

@@ -8,16 +8,16 @@ use Rattle.kpn_book.proofs.open_book.OpenBook.turn_ahead.Given as given
 use Rattle.kpn_book.proofs.open_book.OpenBook.turn_ahead.Goals as goal
 use Rattle.kpn_book.proofs.open_book.OpenBook.turn_ahead.Goals.{After-rotate}
 
-pub program-requires : goal.program-requires
-program-requires g c =
+pub program-program-requires : goal.program-program-requires
+program-program-requires g c =
     first_there (book_of c.args.self.now) c.args.p c.known-2.ensures.schedule c.requires.kept c.requires.first
 
-pub ins-requires : goal.ins-requires
-ins-requires g c =
+pub ins-ins-requires : goal.ins-ins-requires
+ins-ins-requires g c =
     first_there (book_of c.args.self.now) c.args.p c.known-2.ensures.schedule c.requires.kept c.requires.first
 
-pub outs-requires : goal.outs-requires
-outs-requires g c =
+pub outs-outs-requires : goal.outs-outs-requires
+outs-outs-requires g c =
     first_there (book_of c.args.self.now) c.args.p c.known-2.ensures.schedule c.requires.kept c.requires.first
 
 pub events-init : goal.events-init
@@ -33,9 +33,9 @@ events-init g c = record {
 
 pub event_ahead-requires-clause-own : goal.event_ahead-requires-clause-own
 event_ahead-requires-clause-own g c =
-    subst (λ t. HasProgramAndPorts t c.args.p c.program.result.now c.ins.result.now c.outs.result.now)
+    subst (λ t. HasProgramAndPorts t c.args.p c.program-program.result.now c.ins-ins.result.now c.outs-outs.result.now)
     (sym c.events.invariant.tables)
-    (record { program = c.program.ensures; ins = c.ins.ensures; outs = c.outs.ensures })
+    (record { runs = c.program-program.ensures; reads = c.ins-ins.ensures; writes = c.outs-outs.ensures })
 
 pub returns-in_err-ended-clause-in_vain : goal.returns-in_err-ended-clause-in_vain
 returns-in_err-ended-clause-in_vain g c =
