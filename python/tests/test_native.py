@@ -893,7 +893,9 @@ class Compiles(WithFolder):
                 self.assertIs(type(found['y']), type(wanted['y']))
                 self.assertEqual((list(found['y']), found.outcome, found.waits, found.complete),
                                  (list(wanted['y']), wanted.outcome, wanted.waits, wanted.complete))
-        self.assertEqual(program.run([2**62] * 9).faults, {'fir': 'overflow'})
+        faulted = program.run([2**62] * 9)
+        self.assertEqual(faulted.faults, {'fir': 'overflow'})
+        self.assertEqual(str(faulted.fault_places['fir']), str(net.run([2**62] * 9).fault_places['fir']))
         for bad, error in (([0.5], TypeError), ([2**63], kpn.KpnError), ({'z': []}, kpn.KpnError)):
             self.assertRaises(error, program.run, bad)
 
@@ -950,7 +952,10 @@ class Compiles(WithFolder):
             self.assertRaises(kpn.KpnError, live.read)
         with program.stream() as live:
             live.feed([2**62] * 9)
-            self.assertEqual(live.finish().faults, {'fir': 'overflow'})
+            live.feed(iter([1, 2]))
+            result = live.finish()
+            self.assertEqual(result.faults, {'fir': 'overflow'})
+            self.assertEqual(str(result.fault_places['fir']), str(net.run([2**62] * 9).fault_places['fir']))
         with program.stream() as live:
             live.leave()
             self.assertEqual(live.process([1, 2]), [])
