@@ -157,8 +157,8 @@ class Streams(unittest.TestCase):
             result = live.finish()
             self.assertEqual((result['y'], result.faults), ([2], {'gain': 'overflow'}))
         self.assertEqual(result.fault_places['gain'].values, {'x': 2**62, 'k': 2})
-        with self.assertRaisesRegex(kpn.KpnError, '`gain` ended by a fault: overflow in `x . k` .process `gain`, .* with'
-                                                  f' x = {2**62}, k = 2'):
+        with self.assertRaisesRegex(kpn.KpnError, '`gain` ended by a fault: overflow in `x . k` .process `gain`, .*'
+                                                  f' with x = {2**62}, k = 2'):
             copy.deepcopy(result).check()
 
     def test_where_a_fault_was(self):

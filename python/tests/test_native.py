@@ -19,6 +19,7 @@ import subprocess
 import sys
 import tempfile
 import unittest
+import unittest.mock
 
 from support import GALLERY, PROGRAM, TOP
 
@@ -928,6 +929,16 @@ class Compiles(WithFolder):
         net.sink('y', net.source('x'))
         self.assertRaisesRegex(kpn.KpnError, "`schedule` is 'x': it has to be one of fuse, batch, kpn", net.compile,
                                schedule='x', cache=self.folder)
+
+    def test_regions_of_large_networks(self):
+        """Their rows are bounded, since the C compiler takes long for them."""
+        text = 'process p(in i; out o) { while 1 { read i x; write o x; } } network { ' + ''.join(
+            f'source x{n}; channel c{n} cap 2; sink y{n} cap 2; p{n} = p(x{n}; c{n}); q{n} = p(c{n}; y{n}); '
+            for n in range(3)) + '}'
+        canonical = kpn.program.answer('print', text)
+        for most, count in ((12, 3), (11, 2), (4, 1), (3, 0)):
+            with unittest.mock.patch('kpn.native.regions.MOST_OF_ALL', most):
+                self.assertEqual(command.c_of(canonical, 'fuse').count('any_region_'), 3 * count)
 
     def test_live(self):
         """Runs that are fed and read in blocks give what one run gives, and refuse what `net.stream` does."""

@@ -44,7 +44,8 @@ class Loaded:
 
     def run(self, given: Mapping[str, Items], take: int = 0, most: int = LARGEST) -> Result:
         """Runs on the items of each source, up to this many commits."""
-        arrays, kept = (Array * (len(self.layout.channels) + 1))(), {}
+        arrays = (Array * (len(self.layout.channels) + 1))()
+        kept: Dict[str, Any] = {}
         for name, items in given.items():
             address, count, kept[name] = memory_of(name, items)
             arrays[self.layout.channels.index(name)] = Array(address, count)
