@@ -4,10 +4,11 @@ docs/PROVING.md.
 
 usage: tools/gate.py [--log FILE] [--beside PID]
 
-It makes a clean clone of what is committed, calls `rt ci` there, and adds up the processor time of its processes: the
-proof of each crate, its must-fail edits, and its tests. A program's runs belong to its proof. What `rt ci` says goes to
-FILE, or else to standard error. The last lines say how long it took by the clock, and how this machine compares with
-the table's. With --beside it watches the `rt ci` that runs as process PID.
+It makes a clean clone of what is committed, calls `rt ci --anew` there, and adds up the processor time of its
+processes: the proof of each crate, its must-fail edits, and its tests. A program's runs belong to its proof. What
+`rt ci` says goes to FILE, or else to standard error. The last lines say how long it took by the clock, and how this
+machine compares with that of the table there. With --beside it watches the `rt ci` that runs as process PID. Without
+`--anew` that proves no crate which has passed before on this machine, and the table leaves those out.
 """
 import argparse
 import os
@@ -23,8 +24,9 @@ from collections import defaultdict
 import prover
 
 TOP = pathlib.Path(__file__).resolve().parent.parent
-# The minutes that the proofs of these crates took together on the machine of the table in docs/PROVING.md.
-MEASURE, ON_THE_TABLES_MACHINE = ('kpn_net', 'kpn_text_grammar', 'kpn_text_names'), 8.0
+TABLE = TOP / 'docs/PROVING.md'
+# A row of the table whose first number is no estimate.
+MEASURED = re.compile(r'^    (\w+) +(\d[\d.]*)(?= |$)', re.M)
 TICK = os.sysconf('SC_CLK_TCK')
 SECONDS_BETWEEN_LOOKS = 0.2
 RAN = re.compile(r'/rt-run-[^/]*/bin/(\w+?)(_tests)?$')
@@ -74,13 +76,20 @@ class Watch:
     def look(self):
         found = {pid: it for pid in map(int, filter(str.isdigit, os.listdir('/proc'))) if (it := process_at(pid))}
         parts = {pid: part_of(words, folder) for pid, (_, words, folder, _) in found.items()}
-        for pid, part in parts.items():
-            parents = list(self.parents(pid, found))
-            # The children of one that counts are counted with it.
-            if part and self.root in parents and not any(parts.get(it) for it in parents):
-                self.seen[pid, part] = found[pid][3]
+        now = defaultdict(float)
+        for pid, (*_, seconds) in found.items():
+            way = list(self.way(pid, found))
+            # What is below one that counts is counted with it. It may still run when that is seen for the last time.
+            counted = [it for it in way if parts.get(it)]
+            if counted and self.root in way:
+                now[counted[-1], parts[counted[-1]]] += seconds
+        for key, seconds in now.items():
+            # A child that ends during the look may lack.
+            self.seen[key] = max(seconds, self.seen.get(key, 0))
 
-    def parents(self, pid, found):
+    def way(self, pid, found):
+        """A process, its parent and so on, up to the root or one that is gone."""
+        yield pid
         while pid in found and pid != self.root:
             pid = found[pid][0]
             yield pid
@@ -95,7 +104,7 @@ class Watch:
 def run_and_watch(folder, log):
     """Calls `rt ci` in a folder. Returns what the crates spent, the seconds by the clock, and the status."""
     begun = time.monotonic()
-    started = subprocess.Popen(['rt', 'ci'], cwd=folder, stdin=subprocess.DEVNULL, stdout=log, stderr=log)
+    started = subprocess.Popen(['rt', 'ci', '--anew'], cwd=folder, stdin=subprocess.DEVNULL, stdout=log, stderr=log)
     watch = Watch(started.pid)
     while started.poll() is None:
         watch.look()
@@ -117,8 +126,9 @@ def minutes(seconds):
 
 
 def table(spent, crates):
+    """The rows of the crates that were proved, and the line that names the others."""
     total = Spent()
-    for crate in crates:
+    for crate in (it for it in crates if it.name in spent):
         it = spent[crate.name]
         it.number_of_edits = len(list((crate.folder / 'must-fail').glob('*.edit')))
         it.number_of_tests = sum(file.read_text().count('#[test]') for file in (crate.folder / 'src').rglob('*.rt'))
@@ -126,6 +136,9 @@ def table(spent, crates):
         for name in vars(total):
             setattr(total, name, getattr(total, name) + getattr(it, name))
     yield row('all', total)
+    left = [it.name for it in crates if it.name not in spent]
+    if left:
+        yield f'Not measured: {", ".join(left)}.'
 
 
 def row(name, it):
@@ -135,18 +148,27 @@ def row(name, it):
 
 
 def compared(spent):
-    took = sum(spent[it].proof / 60 for it in MEASURE)
-    if not took:
-        return 'The machine is not compared: that takes the proofs of ' + ', '.join(MEASURE) + '.'
-    return (f'{", ".join(MEASURE)}: {took:.1f} minutes here, {ON_THE_TABLES_MACHINE} on the machine of the table, so '
-            f'minutes here times {ON_THE_TABLES_MACHINE / took:.2f} are minutes of the table.')
+    """How this machine compares with that of the table, by the proofs which both have measured."""
+    rows = MEASURED.findall(TABLE.read_text()) if TABLE.exists() else []
+    rows = {name: float(number) for name, number in rows if name in spent and float(number)}
+    here, there = sum(spent[it].proof / 60 for it in rows), sum(rows.values())
+    if not here:
+        return 'The machine is not compared: no crate was proved whose proof the table has without `~`.'
+    return (f'{", ".join(rows)}: {here:.1f} minutes here, {there:.1f} in the table, so minutes here times '
+            f'{there / here:.2f} are minutes of the table.')
 
 
 def main():
-    reads = argparse.ArgumentParser(usage=__doc__.split('usage: ')[1].split('\n')[0])
-    reads.add_argument('--log', type=argparse.FileType('w'), default=sys.stderr)
-    reads.add_argument('--beside', type=int, metavar='PID')
+    about, _, rest = __doc__.partition('\n\nusage: ')
+    usage, _, more = rest.partition('\n')
+    reads = argparse.ArgumentParser(usage=usage, description=about + more,
+                                    formatter_class=argparse.RawDescriptionHelpFormatter)
+    reads.add_argument('--log', type=argparse.FileType('w'), default=sys.stderr, metavar='FILE',
+                       help='where to write what `rt ci` says')
+    reads.add_argument('--beside', type=int, metavar='PID', help='watch the `rt ci` that is this process')
     asked = reads.parse_args()
+    if asked.beside and not process_at(asked.beside):
+        reads.error(f'no process has the number {asked.beside}')
     if asked.beside:
         spent, seconds, status = watch_alone(asked.beside)
     else:

@@ -100,7 +100,9 @@ def main():
             if not names or any(name in file.stem for name in names):
                 found.append(verdict_on(crate, file))
                 print(f'{crate.name}/{file.stem}: {found[-1]}', flush=True)
-    return 0 if found and all(it.startswith('refused') for it in found) else 1
+    if not found:
+        sys.exit(f'there is no wrong body whose name contains {" or ".join(names)}')
+    return 0 if all(it.startswith('refused') for it in found) else 1
 
 
 if __name__ == '__main__':

@@ -29,6 +29,8 @@ if TYPE_CHECKING:
 
 # How many bytes are read from a pipe at a time, and how many pieces are written.
 CHUNK, PIECES = 65_536, 64
+# How many bytes are kept of what each source was fed, for the places of faults.
+KEPT = 4_194_304
 # The most milliseconds of one wait; a call with a longer timeout waits again.
 LONGEST_POLL = 3_600_000.0
 # How long a program takes that has closed its pipes and is about to end, in seconds.
@@ -80,6 +82,8 @@ class Source(Way):
         # Each piece with the number of all bytes up to its end, and how many bytes were written.
         self.pieces: Deque[Tuple[int, bytes]] = collections.deque()
         self.written = collections.deque([0], maxlen=1)
+        # The first pieces of those that are no longer to be written.
+        self.kept: List[Tuple[int, bytes]] = []
 
     def feed(self, data: bytes) -> None:
         """Takes bytes that are to be written."""
@@ -89,20 +93,29 @@ class Source(Way):
     def waits(self) -> bool:
         """Whether something is to be written; if nothing is and that was all, the way is closed."""
         while self.pieces and self.pieces[0][0] <= self.written[0]:
+            end, data = self.pieces[0]
+            room = KEPT - end + len(data)
+            if room > 0 and (not self.kept or self.kept[-1][0] < end):
+                self.kept.append((end, data[:room]))
             self.pieces.popleft()
         if self.is_ending and not self.pieces:
             self.end.close()
         return bool(self.pieces)
 
     def move(self) -> None:
-        """Writes what the pipe takes. What nobody will read any more is dropped."""
+        """Writes what the pipe takes. What nobody will read any more counts as written."""
         before, end = self.written[0], self.pieces[0][0]
         views = [memoryview(data) for _, data in itertools.islice(self.pieces, PIECES)]
         views[0] = views[0][len(views[0]) - (end - before):]
         try:
             self.written.extend(map(before.__add__, map(os.writev, [self.end.fileno()], [views])))
         except BrokenPipeError:
-            self.pieces.clear()
+            self.written.append(self.pieces[-1][0])
+
+    def fed(self) -> bytes:
+        """The first lines that it was fed."""
+        data = b''.join(data for _, data in [*self.kept, *self.pieces])[:KEPT]
+        return data[:data.rfind(b'\n') + 1]
 
 
 class Batch(NamedTuple):
@@ -348,6 +361,7 @@ class Live:
             complete = {name: report.sinks[name] == (it.came, True) for name, it in sinks}
             result = Result(self._layout, report, {name: it.unread(it.came) for name, it in sinks}, self._program,
                             complete, [name for name, it in sinks if it.is_left], self._most)
+            result.keep_fed({name: source.fed() for name, source in self._sources.items()})
             if '--stats' in self._words:
                 result.keep_counted(counted_in(self._told.text()))
             return result

@@ -34,6 +34,8 @@ STATUSES = (0, 3, 4, 5)
 # seconds. What it finds has to grow in a third, longer run too: a frame may be longer than the second.
 ITEMS_OF_LOOK, COMMITS_OF_LOOK, TIME_OF_LOOK = 1_000, 100_000, 10
 ITEMS_OF_LONG_LOOK, COMMITS_OF_LONG_LOOK = 50_000, 5_000_000
+# As many commits of another run does `kpn` make to find the place of a fault.
+COMMITS_TO_FAULT = 1_000_000
 # What such runs have found, by the texts of the networks, and the most of them that are kept.
 LOOKS: Dict[str, List[Rate]] = {}
 MOST_LOOKS = 100
@@ -134,8 +136,9 @@ class Result(collections.abc.Mapping):  # type: ignore[type-arg]
         # The places of faults that a run has told.
         self._places: Dict[str, Fault] = {}
         self._look: Optional[Look] = None
-        # Of a live run, the tables that it has told.
+        # Of a live run, the tables that it has told, and what its sources were fed first, until it is asked for places.
         self._counted: Optional[Stats] = None
+        self._fed: Optional[Mapping[str, bytes]] = None
 
     @property
     def layout(self) -> Layout:
@@ -222,10 +225,10 @@ class Result(collections.abc.Mapping):  # type: ignore[type-arg]
     def check(self) -> Result:
         """This result, if no process faulted and each sink has all its items or as many as `take` says.
 
-        Raises KpnError that says what lacks if not, with the place of a fault if there is a trace, and `kpn.Deadlock`
-        if there is a ring. Warns by a `kpn.GrowthWarning` of each channel that grows with the length of the run.
-        Without a trace it finds those by a second, short run on the first 1,000 items of each source, and a longer one
-        where that finds some.
+        Raises KpnError that says what lacks if not, with the place of a fault if `fault_places` has it, and
+        `kpn.Deadlock` if there is a ring. Warns by a `kpn.GrowthWarning` of each channel that grows with the length of
+        the run. Without a trace it finds those by a second, short run on the first 1,000 items of each source, and a
+        longer one where that finds some.
         """
         reasons = self._reasons()
         if self.outcome != 'enough' and self.deadlock:
@@ -271,10 +274,15 @@ class Result(collections.abc.Mapping):  # type: ignore[type-arg]
         """For each instance that a fault ended a `Fault`: its word, the place, the expression and the values there.
 
         A process that takes more than a million statements up to its fault is left out. Without a trace so is what a
-        run of a million commits does not come to, and a live run has none.
+        run of a million commits does not come to. Of a live run so is what the first 4 MiB of the lines of each source
+        do not come to, and of one in this process what their first 500,000 items do not come to.
         """
-        if self._trace and self.faults.keys() - self._places.keys():
-            self.keep_places(self._asked('explain').stderr)
+        if self.faults.keys() - self._places.keys():
+            if self._trace:
+                self.keep_places(self._asked('explain').stderr)
+            elif self._fed is not None:
+                fed, self._fed = self._fed, None
+                self.keep_places(run_again(self._layout, fed, self._program))
         return self._places
 
     def trace(self) -> Trace:
@@ -452,6 +460,11 @@ class Result(collections.abc.Mapping):  # type: ignore[type-arg]
         """Keeps the places of faults that the program has told."""
         self._places.update(faults_of(self.faults, self._layout, told))
 
+    def keep_fed(self, lines: Mapping[str, bytes]) -> None:
+        """Keeps the first lines that the sources were fed, by which another run tells the places of faults."""
+        if self.faults:
+            self._fed = lines
+
     def keep_counted(self, tables: Stats) -> None:
         """Keeps the tables that a live run has told."""
         self._counted = tables
@@ -467,6 +480,20 @@ def stored_run(net: Network, trace: Path) -> Result:
     result = Result(layout, Report(None, {}, [], {}), dict.fromkeys(layout.sinks, []))
     result.keep(Folder({TEXT: layout.text.encode()}), os.path.abspath(trace))
     return result
+
+
+def run_again(layout: Layout, lines: Mapping[str, bytes], program: Program) -> str:
+    """What another run on these lines tells of faults; nothing if it takes too long."""
+    folder = Folder({TEXT: layout.text.encode(), **{f'{name}.source': it for name, it in lines.items()}})
+    words = words_of(max_commits=COMMITS_TO_FAULT)
+    for name in layout.sources:
+        words += ['--source', f'{name}={name}.source']
+    for name in layout.sinks:
+        words += ['--sink', f'{name}={os.devnull}']
+    try:
+        return call(['stream', TEXT, *words], program, folder.path, TIME_OF_LOOK).stderr
+    except KpnError:
+        return ''
 
 
 def look(layout: Layout, wanted: Look, program: Program) -> List[Rate]:

@@ -1,4 +1,5 @@
 """Runs by `kpn stream`, which are fed and read while they go on."""
+import copy
 import os
 import pathlib
 import random
@@ -155,6 +156,27 @@ class Streams(unittest.TestCase):
             live.feed([1, 2**62, 3])
             result = live.finish()
             self.assertEqual((result['y'], result.faults), ([2], {'gain': 'overflow'}))
+        self.assertEqual(result.fault_places['gain'].values, {'x': 2**62, 'k': 2})
+        with self.assertRaisesRegex(kpn.KpnError, '`gain` ended by a fault: overflow in `x . k` .process `gain`, .*'
+                                                  f' with x = {2**62}, k = 2'):
+            copy.deepcopy(result).check()
+
+    def test_where_a_fault_was(self):
+        """It is told whatever was fed later and was not read, if the first bytes that were fed come to it."""
+        for before, behind, kept, place in ((0, 0, 99, 'x'), (7, MANY, 9_999, 'x'), (MANY, 3, MANY, ''), (0, 0, 9, '')):
+            with unittest.mock.patch('kpn.live.KEPT', kept), doubling().stream(timeout=LONG) as live:
+                live.feed([0] * before)
+                live.feed([1, 2])
+                self.assertEqual(len(live.read(before + 2)), before + 2)
+                live.feed([2**62] + [3] * behind)
+                live.feed([4] * behind)
+                result = live.finish()
+                self.assertEqual((result['y'], result.faults), ([], {'gain': 'overflow'}))
+                values = {'gain': {'x': 2**62, 'k': 2}} if place else {}
+                self.assertEqual({name: it.values for name, it in result.fault_places.items()}, values)
+        net = kpn.Network.from_text('process p(out o) { write o (1 / (3 - 3)); } network { sink y; p = p(; y); }')
+        with net.stream(timeout=LONG) as live:
+            self.assertEqual(live.finish().fault_places['p'].place, ('process `p`', 1, 28))
 
     def test_the_gallery(self):
         for name, module in gallery.GALLERY.items():

@@ -19,6 +19,7 @@ import subprocess
 import sys
 import tempfile
 import unittest
+import unittest.mock
 
 from support import GALLERY, PROGRAM, TOP
 
@@ -893,7 +894,9 @@ class Compiles(WithFolder):
                 self.assertIs(type(found['y']), type(wanted['y']))
                 self.assertEqual((list(found['y']), found.outcome, found.waits, found.complete),
                                  (list(wanted['y']), wanted.outcome, wanted.waits, wanted.complete))
-        self.assertEqual(program.run([2**62] * 9).faults, {'fir': 'overflow'})
+        faulted = program.run([2**62] * 9)
+        self.assertEqual(faulted.faults, {'fir': 'overflow'})
+        self.assertEqual(str(faulted.fault_places['fir']), str(net.run([2**62] * 9).fault_places['fir']))
         for bad, error in (([0.5], TypeError), ([2**63], kpn.KpnError), ({'z': []}, kpn.KpnError)):
             self.assertRaises(error, program.run, bad)
 
@@ -927,6 +930,16 @@ class Compiles(WithFolder):
         self.assertRaisesRegex(kpn.KpnError, "`schedule` is 'x': it has to be one of fuse, batch, kpn", net.compile,
                                schedule='x', cache=self.folder)
 
+    def test_regions_of_large_networks(self):
+        """Their rows are bounded, since the C compiler takes long for them."""
+        text = 'process p(in i; out o) { while 1 { read i x; write o x; } } network { ' + ''.join(
+            f'source x{n}; channel c{n} cap 2; sink y{n} cap 2; p{n} = p(x{n}; c{n}); q{n} = p(c{n}; y{n}); '
+            for n in range(3)) + '}'
+        canonical = kpn.program.answer('print', text)
+        for most, count in ((12, 3), (11, 2), (4, 1), (3, 0)):
+            with unittest.mock.patch('kpn.native.regions.MOST_OF_ALL', most):
+                self.assertEqual(command.c_of(canonical, 'fuse').count('any_region_'), 3 * count)
+
     def test_live(self):
         """Runs that are fed and read in blocks give what one run gives, and refuse what `net.stream` does."""
         net = kpn.Network()
@@ -950,7 +963,10 @@ class Compiles(WithFolder):
             self.assertRaises(kpn.KpnError, live.read)
         with program.stream() as live:
             live.feed([2**62] * 9)
-            self.assertEqual(live.finish().faults, {'fir': 'overflow'})
+            live.feed(iter([1, 2]))
+            result = live.finish()
+            self.assertEqual(result.faults, {'fir': 'overflow'})
+            self.assertEqual(str(result.fault_places['fir']), str(net.run([2**62] * 9).fault_places['fir']))
         with program.stream() as live:
             live.leave()
             self.assertEqual(live.process([1, 2]), [])

@@ -8,8 +8,8 @@ from typing import TYPE_CHECKING, Any, Dict, List, Mapping, Optional
 
 from ..errors import KpnError, whole
 from ..result import Result, report_of
-from ..running import Items
-from .loaded import COMMITS, LINE, memory_of
+from ..running import Items, lines_of
+from .loaded import COMMITS, ITEMS_TO_FAULT, LINE, memory_of
 
 if TYPE_CHECKING:
     from ..network import Layout
@@ -31,6 +31,8 @@ class CompiledLive:
         self._run: Optional[int] = None
         self._closed: List[str] = []
         self._left: List[str] = []
+        # The first items that each source was fed.
+        self._fed = {name: array.array('q') for name in layout.sources}
         pointer, size, number = ctypes.c_void_p, ctypes.c_size_t, ctypes.c_uint32
         for name, kinds, answer in (('begin', (), pointer), ('end', (pointer,), None),
                                     ('feed', (pointer, size, pointer, size), number), ('close', (pointer, size), None),
@@ -72,6 +74,8 @@ class CompiledLive:
             'array' if isinstance(items, array.array) else ''
         if not self._library.kpn_live_feed(self._run, number, address, count):
             raise KpnError('the run lacks memory', error='28 NoMemory')
+        fed = self._fed[name]
+        fed.frombytes(ctypes.string_at(address, fed.itemsize * min(count, ITEMS_TO_FAULT - len(fed))))
         del owner
 
     def close(self, source: Optional[str] = None) -> None:
@@ -132,7 +136,9 @@ class CompiledLive:
         complete: Mapping[str, bool] = {name: bool(self._library.kpn_live_is_complete(
             self._run, self._layout.channels.index(name))) for name in self._layout.sinks}
         report = report_of(text.raw[:length].decode())
-        return Result(self._layout, report, sinks, complete=dict(complete), left=self._left)
+        result = Result(self._layout, report, sinks, complete=dict(complete), left=self._left)
+        result.keep_fed({name: lines_of(name, items) for name, items in self._fed.items()} if result.faults else {})
+        return result
 
     def _taken(self, number: int, count: int) -> Any:
         """This many items of a sink, in the form of what was fed last."""

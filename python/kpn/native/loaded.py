@@ -9,7 +9,7 @@ from typing import TYPE_CHECKING, Any, Dict, Iterable, Mapping, Optional, Sequen
 
 from ..errors import LARGEST, KpnError
 from ..result import Result, report_of
-from ..running import Items, numbers_of
+from ..running import Items, lines_of, numbers_of
 
 if TYPE_CHECKING:
     from ..network import Layout
@@ -18,6 +18,8 @@ if TYPE_CHECKING:
 COMMITS = 1_000_000
 # The outcome `stopped`, and the most bytes of a line of a report.
 STOPPED, LINE = 5, 256
+# The first items of each source of which the places of faults are found.
+ITEMS_TO_FAULT = 500_000
 
 
 class Array(ctypes.Structure):
@@ -42,11 +44,11 @@ class Loaded:
 
     def run(self, given: Mapping[str, Items], take: int = 0, most: int = LARGEST) -> Result:
         """Runs on the items of each source, up to this many commits."""
-        arrays, kept = (Array * (len(self.layout.channels) + 1))(), []
+        arrays = (Array * (len(self.layout.channels) + 1))()
+        kept: Dict[str, Any] = {}
         for name, items in given.items():
-            address, count, owner = memory_of(name, items)
+            address, count, kept[name] = memory_of(name, items)
             arrays[self.layout.channels.index(name)] = Array(address, count)
-            kept.append(owner)
         run = self.library.kpn_arrays_begin(arrays, take)
         try:
             outcome, made = STOPPED if run else 0, 0
@@ -55,10 +57,12 @@ class Loaded:
                 outcome = self.library.kpn_arrays_go(run, made)
             if not outcome:
                 raise KpnError('the run lacks memory', error='42 NoMemory')
-            return self.result(run, given)
+            result = self.result(run, given)
         finally:
             self.library.kpn_arrays_end(run)
-            del kept
+        if result.faults:
+            result.keep_fed({name: lines_of(name, items[:ITEMS_TO_FAULT]) for name, items in kept.items()})
+        return result
 
     def result(self, run: int, given: Mapping[str, Items]) -> Result:
         """What came of a run."""

@@ -16,8 +16,9 @@ from ..balance import Link, Unbalanced, rounds_of
 from ..language import INDEX, Assign, Description, Read, Write
 from .paths import Leave, Rows, Test
 
-# The most rows of a period. What is larger falls apart at its widest channel.
-MOST_ROWS = 500
+# The most rows of a period, and of those of all regions, for each of which gcc takes some 15 ms. What is larger than the
+# first falls apart at its widest channel; regions beyond the second are left to turns.
+MOST_ROWS, MOST_OF_ALL = 500, 2_000
 
 
 class Loop(NamedTuple):
@@ -125,7 +126,8 @@ class Finder:
                       and self.writers[c][0] in self.loops and self.readers[c][0] in self.loops}
 
     def regions(self) -> Iterator[Region]:
-        """All regions of two members and more."""
+        """The regions of two members and more, as many as may be."""
+        room = MOST_OF_ALL
         for members in reversed(self.components(set(self.loops), self.links)):
             laps = self.balance(members, self.inside(members)) if len(members) > 1 else None
             left = [self.whole(laps)] if laps else []
@@ -136,7 +138,8 @@ class Finder:
                     continue
                 found = part.members()
                 region = self.period({p: laps[p] // part.periods for p in sorted(found)}, self.inside(found))
-                if region:
+                if region and len(region.order) <= room:
+                    room -= len(region.order)
                     yield region
 
     def inside(self, members: Set[int]) -> Set[str]:
