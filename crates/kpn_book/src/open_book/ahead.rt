@@ -131,7 +131,7 @@ impl<'n, A: Allocator> OpenBook<'n, A> {
         let (_, stop) = self.machine.step(network, program, p, quota);
         let Some(exchanged) = self.exchange(program, ins, outs, p, stop) else {
             if made == 0 || is_pause(stop) {
-                let sink = self.handle_first(p, stop)?;
+                let sink = self.handle_first(program, p, stop)?;
                 self.commits += 1;
                 self.schedule.known();
                 return Ok(Some(sink));

@@ -69,10 +69,34 @@ impl<'n, A: Allocator> OpenBook<'n, A> {
     {
         let network = self.network;
         network.known();
+        self.handle_stop_of(hold, network.program(p), p, stop)
+    }
+
+    /// The same, of process `p`, which has this program.
+    #[inline(always)]
+    pub(super) fn handle_stop_of(
+        &mut self,
+        hold: Hold,
+        program: &Program,
+        p: usize,
+        stop: Stop,
+    ) -> Done
+        requires program { program.now ≡ program_of self.old.network.now p }
+        requires held { IsHeldBy hold p self.old.schedule }
+        requires sound { IsSound (held_by hold p (book_of self.old)) }
+        requires room { stop ≢ Paused → 2 ≤ self.old.history.room }
+        requires stands { Stands self.old.network.now self.old.machine p stop }
+        requires port { (f : Frame) × IsAtPort (program_of self.old.network.now p) f stop }
+        requires reserved { (c : ℕ) (v : ℤ) → IsWriteTo self.old.network.now p stop c v
+            → IsTrue (channel_in self.old.machine c).is_reserved }
+        ensures { IsCommit hold p (λ (s : Place). s ≡ stop) result self.old self.new }
+    {
+        let network = self.network;
+        network.known();
         match stop {
             Stop::WantRead(port) => {
                 let c = in_channel(network, p, port);
-                self.read(hold, p, c)
+                self.read(hold, program, p, c)
             }
             Stop::WantWrite(port, item) => {
                 let c = out_channel(network, p, port);
@@ -87,9 +111,11 @@ impl<'n, A: Allocator> OpenBook<'n, A> {
         }
     }
 
-    /// Process `p`, which is at a read from channel `c`, gets its next item, or waits if there is none.
+    /// Process `p`, which has this program and is at a read from channel `c`, gets its next item, or waits if there is
+    /// none.
     #[inline(always)]
-    fn read(&mut self, hold: Hold, p: usize, c: usize) -> Done
+    fn read(&mut self, hold: Hold, program: &Program, p: usize, c: usize) -> Done
+        requires program { program.now ≡ program_of self.old.network.now p }
         requires may { MayCommit hold p self.old }
         requires reads { ReadsFrom self.old.network.now self.old.machine p c }
         ensures { let t = self.old.network.now in
@@ -100,7 +126,7 @@ impl<'n, A: Allocator> OpenBook<'n, A> {
         if !self.machine.has_item(c) {
             return self.wait_on_empty(hold, p, c);
         }
-        let got = self.get_item(hold, network.program(p), p, c);
+        let got = self.get_item(hold, program, p, c);
         go_on(&mut self.schedule, hold, p, got.woken);
         Done::Got(got.item)
     }

@@ -19,6 +19,7 @@ ghost use Rattle.kpn_book.specs.Open.{book_of, first_claimed, MayCommit, if_sink
 use super::{Hold, OpenBook};
 use crate::answers::Done;
 use kpn_chan::Channel;
+use kpn_lang::Program;
 use kpn_machine::out_channel;
 use kpn_net::Network;
 use kpn_step::Stop;
@@ -74,19 +75,26 @@ impl<'n, A: Allocator> OpenBook<'n, A> {
         let network = self.network;
         network.known();
         self.schedule.known();
-        let (_, stop) = self.machine.step(network, network.program(p), p, quota);
-        let sink = self.handle_first(p, stop)?;
+        let program = network.program(p);
+        let (_, stop) = self.machine.step(network, program, p, quota);
+        let sink = self.handle_first(program, p, stop)?;
         self.commits += 1;
         self.schedule.known();
         Ok(sink)
     }
 
-    /// Commits process `p`, which is the first of the queue, at this stop. Returns the sink on which it has put an
-    /// item, if it has. The error is that memory ran out, and then nothing has changed.
+    /// Commits process `p`, which is the first of the queue and has this program, at this stop. Returns the sink on
+    /// which it has put an item, if it has. The error is that memory ran out, and then nothing has changed.
     #[inline(always)]
-    pub(super) fn handle_first(&mut self, p: usize, stop: Stop) -> Result<Option<usize>, AllocError>
+    pub(super) fn handle_first(
+        &mut self,
+        program: &Program,
+        p: usize,
+        stop: Stop,
+    ) -> Result<Option<usize>, AllocError>
     where
         A: Copy,
+        requires program { program.now ≡ program_of self.old.network.now p }
         requires first { HoldsFirst p self.old.schedule (first_held p self.old.schedule) }
         requires kept { IsKept (first_claimed p (book_of self.old)) }
         requires room { 2 ≤ self.old.history.room }
@@ -101,7 +109,7 @@ impl<'n, A: Allocator> OpenBook<'n, A> {
         let network = self.network;
         network.known();
         let Stop::WantWrite(port, item) = stop else {
-            self.handle_stop(Hold::First, p, stop);
+            self.handle_stop_of(Hold::First, program, p, stop);
             return Ok(None);
         };
         let c = out_channel(network, p, port);

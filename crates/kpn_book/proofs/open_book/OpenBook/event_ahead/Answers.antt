@@ -101,6 +101,11 @@ handle_first-requires-clause-kept g c =
     subst (λ o. IsKept (first_claimed c.args.p (book_of o))) (sym c.in_default.ensures.stuck)
     (held_there g (goal.at.handle_first-requires-clause-kept g c).After-step-stop)
 
+pub handle_first-requires-clause-program : goal.handle_first-requires-clause-program
+handle_first-requires-clause-program g c =
+    subst (λ o. c.args.program.now ≡ program_of o.network.now c.args.p) (sym c.in_default.ensures.stuck)
+    c.requires.own.runs
+
 pub handle_first-requires-clause-port : goal.handle_first-requires-clause-port
 handle_first-requires-clause-port g c =
     subst (λ o. (f : Frame) × IsAtPort (program_of o.network.now c.args.p) f c.step-stop.result.1)

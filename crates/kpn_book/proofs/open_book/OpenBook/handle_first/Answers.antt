@@ -150,16 +150,16 @@ returns-in_default g c =
         reserved = o;
         but = inl refl;
         answered = record {
-          answer = c.handle_stop.result;
-          answered = c.handle_stop.ensures.answered;
+          answer = c.handle_stop_of.result;
+          answered = c.handle_stop_of.ensures.answered;
           sink_is = λ s is.
-              sym (ap (λ z. sink_by b.tables c.args.p z c.handle_stop.result) is
-              ∙ puts_nowhere b.tables c.args.p c.args.stop c.handle_stop.result c.in_default.not-WantWrite);
+              sym (ap (λ z. sink_by b.tables c.args.p z c.handle_stop_of.result) is
+              ∙ puts_nowhere b.tables c.args.p c.args.stop c.handle_stop_of.result c.in_default.not-WantWrite);
         };
       };
       wants = tt;
       as_before = tt;
-      room = c.handle_stop.ensures.room;
+      room = c.handle_stop_of.ensures.room;
     }
 
 pub returns-in_err-reserve_one-clause-wants : goal.returns-in_err-reserve_one-clause-wants

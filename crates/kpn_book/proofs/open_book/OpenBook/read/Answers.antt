@@ -24,12 +24,6 @@ wait_on_empty-requires-clause-ready g c =
     (held_is_there o step c.args.p held) (held_is_free o step c.args.p held) c.requires.reads
     (sym c.has_item.ensures ∙ no)
 
-pub program-requires : goal.program-requires
-program-requires g c =
-    let o = held_by c.args.hold c.args.p (book_of c.args.self.now) in
-    let held = held_so c.args.hold c.args.p (book_of c.args.self.now) c.requires.may.held in
-    held_is_there o c.requires.may.sound.in_step c.args.p held
-
 pub go_on-requires-clause-held : goal.go_on-requires-clause-held
 go_on-requires-clause-held g c =
     subst (IsHeldBy c.args.hold c.args.p) (sym c.get_item-got.ensures.schedule) c.requires.may.held

@@ -6,8 +6,8 @@ pub step-stop-requires-clause-process : goal.step-stop-requires-clause-process
 step-stop-requires-clause-process g c =
     first_there (book_of c.args.self.now) c.args.p c.known-2.ensures.schedule c.requires.kept c.requires.first
 
-pub program-requires : goal.program-requires
-program-requires g c =
+pub program-program-requires : goal.program-program-requires
+program-program-requires g c =
     first_there (book_of c.args.self.now) c.args.p c.known-2.ensures.schedule c.requires.kept c.requires.first
 
 pub handle_first-requires-clause-first : goal.handle_first-requires-clause-first
