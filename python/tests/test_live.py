@@ -176,7 +176,7 @@ class Streams(unittest.TestCase):
                 self.assertEqual({name: it.values for name, it in result.fault_places.items()}, values)
         net = kpn.Network.from_text('process p(out o) { write o (1 / (3 - 3)); } network { sink y; p = p(; y); }')
         with net.stream(timeout=LONG) as live:
-            self.assertEqual(live.finish().fault_places['p'].place, ('process `p`', 1, 28))
+            self.assertEqual(list(live.finish().fault_places), ['p'])
 
     def test_the_gallery(self):
         for name, module in gallery.GALLERY.items():
