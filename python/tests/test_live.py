@@ -174,7 +174,7 @@ class Streams(unittest.TestCase):
                 self.assertEqual((result['y'], result.faults), ([], {'gain': 'overflow'}))
                 values = {'gain': {'x': 2**62, 'k': 2}} if place else {}
                 self.assertEqual({name: it.values for name, it in result.fault_places.items()}, values)
-        net = kpn.Network.from_text('process p(out o) { write o (1 / (3 - 3)); } network { sink y; p = p(; y); }')
+        net = kpn.Network.from_text('process p(out o) { write o (1 / (3 - 3)); } network { sink y cap 1; p = p(; y); }')
         with net.stream(timeout=LONG) as live:
             self.assertEqual(list(live.finish().fault_places), ['p'])
 
