@@ -25,7 +25,7 @@
      kpn_tell_processes    the state of each process: whether it is ready, for which channel it waits, how it ended
      kpn_tell_channel    what is at the ends of a channel, how many items were got and how many are unread
      kpn_look      the unread items of a channel, which stay there
-     kpn_trace     what has happened so far, as a text: `kpn audit` judges it, `kpn explain` tells where a fault was
+     kpn_trace     what has happened so far, as the text that `kpn audit` reads
      kpn_free      frees a session
 
    What you can rely on

@@ -1,6 +1,6 @@
 //! Books and machines, by public calls. Standard input has sections that end with a line `.`: a description of a
 //! network, and then a line `calls` with calls below it, one on a line, or `scene NAME`, whose calls stand in the
-//! program, or `region`, or a trace.
+//! program, or a trace.
 //!
 //! The program makes each call of a book on a heap with ever more bytes left, from none on, until memory suffices. So
 //! each request for memory fails in turn, and all that the book holds has to stay as it was. Then the program writes the
@@ -15,9 +15,6 @@
 //! - `begins C ITEM` asks whether the journal of a channel begins with an item.
 //! - `view` makes a snapshot on that heap.
 //!
-//! Of `region` it claims two processes together, while one is held and then while none is, and commits what they have
-//! made twice.
-//!
 //! Of a trace it steps each process to its stop before its event. It repeats the event on a machine, and writes
 //! which processes it woke and all that the machine then shows.
 //!
@@ -26,12 +23,10 @@
 #![tactic(auto)]
 
 mod books;
-mod regions;
 mod replays;
 
 use crate::books::make_beside_twin;
 use crate::books::scenes::calls_of;
-use crate::regions::commit_twice;
 use crate::replays::replay;
 use anyhow::{Result, bail};
 use kpn_net::Network;
@@ -44,8 +39,6 @@ use std::io::Write;
 enum Below<'a> {
     /// Calls of a book.
     Calls(&'a str),
-    /// Two processes are claimed and committed together.
-    Region,
     /// A trace without its first line.
     Events(&'a str),
 }
@@ -57,9 +50,6 @@ fn parts_of(section: &str) -> Result<(&str, Below<'_>)> {
     }
     if let Some((description, name)) = section.split_once("\nscene ") {
         return Ok((description, Below::Calls(calls_of(name.trim_end())?)));
-    }
-    if let Some((description, _)) = section.split_once("\nregion\n") {
-        return Ok((description, Below::Region));
     }
     match section.split_once("\ncalls\n") {
         Some((description, calls)) => Ok((description, Below::Calls(calls))),
@@ -76,7 +66,6 @@ fn answer_below<O: Write>(
 ) -> Result<()> {
     match below {
         Below::Calls(calls) => make_beside_twin(alloc, network, description.as_bytes(), calls, out),
-        Below::Region => commit_twice(alloc, network, out),
         Below::Events(events) => replay(alloc, network, events, out),
     }
 }

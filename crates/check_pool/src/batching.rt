@@ -4,13 +4,13 @@ ghost use Rattle.std.specs.Prelude.{◌≡◌};
 ghost use Rattle.kpn_history.specs.declared.keeping.Keeping.TheVariants.{All};
 
 use crate::flag::Flag;
-use crate::networks::NINE_SEVENS;
-use crate::scenes::{Scene, plays};
+use crate::networks::nine_sevens;
 use kpn_book::{Book, Event};
 use kpn_net::Network;
 use kpn_pool::{Opened, Shared, gather, work};
 use kpn_pool_desk::{Gate, Go, Job, View, Why, WorkerSeat};
 use std::alloc::{AllocError, Allocator, Global};
+use std::marker::Brand;
 use std::sync::Wait;
 use std::sync::atomic::{AtomicUsize, Ordering};
 use std::sync::ledger::Blank;
@@ -126,7 +126,7 @@ fn put_by(book: &Book<'_>, processes: &[u16]) -> bool {
 }
 
 /// Two turns of a worker. Returns whether all is as it has to be after each.
-pub fn ends_twice<J: Job + Send + Sync, R: Wait + Clock>(
+fn ends_twice<J: Job + Send + Sync, R: Wait + Clock>(
     rt: &R,
     alloc: Global,
     blank: Blank,
@@ -157,6 +157,9 @@ pub fn ends_twice<J: Job + Send + Sync, R: Wait + Clock>(
 /// The gate is asked for processes 0, 1 and 2, and ends the worker at the last. The queue is then 8, 0, 1, 2 and so on.
 #[test]
 fn refutes_batches_in_another_order(rt: HostRuntime) -> Result<(), Fail> {
-    assert!(rt; plays(&rt, rt.alloc(), NINE_SEVENS, Scene::EndsTwice)?);
+    let network = nine_sevens(rt.alloc())?;
+    let blank = Blank::new(1);
+    let is_so = ends_twice::<Brand, HostRuntime>(&rt, rt.alloc(), blank, &network)?;
+    assert!(rt; is_so);
     Ok(())
 }

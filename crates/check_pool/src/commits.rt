@@ -102,7 +102,7 @@ network {
   held = spin(;); spin = spin(;); put = put(b; a); copy = copy(a; b);
 }";
 
-/// Numbers through two copies, enough that workers cut the network, beside a process that steps for ever: it alone is
+/// Numbers through two copies, so many that workers cut the network, beside a process that steps for ever: it alone is
 /// left after some 60,000 commits.
 const LONG_AND_SPIN: &str = "process spin() { while 1 { } }
 process count(out o) { k = 0; while (k < 9000) { write o k; k = (k + 1); } }

@@ -3,28 +3,27 @@ ghost use Rattle.std.specs.Prelude.{◌≡◌};
 ghost use Rattle.kpn_history.specs.declared.keeping.Keeping.TheVariants.{All};
 
 use crate::always::Always;
-use crate::networks::SPINNING;
-use crate::scenes::{Scene, plays};
+use crate::networks::spinning;
 use kpn_net::Network;
 use kpn_pool::{Opened, Shared, work};
-use kpn_pool_desk::{Go, Job, View, Why};
+use kpn_pool_desk::{Gate, Go, Job, View, Why};
 use std::alloc::{AllocError, Global};
+use std::marker::Brand;
 use std::sync::Wait;
 use std::sync::ledger::Blank;
 use std::test::Fail;
 use std::time::Clock;
 
-/// Whether a lone worker, halted beforehand or not, ends for this reason, and its process is ready then.
-pub fn ends_alone<J: Job, R: Wait + Clock>(
+/// Why a lone worker ends, halted beforehand or not, and a snapshot then.
+fn ends_alone<J: Job, G: Gate, R: Wait + Clock>(
     rt: &R,
     alloc: Global,
     blank: Blank,
     network: &Network,
     most: u64,
     is_told: bool,
-    answer: Go,
-    wanted: Why,
-) -> Result<bool, AllocError>
+    gate: &G,
+) -> Result<(Option<Why>, Option<View>), AllocError>
     requires ledger { (blank.name ≡ J.name) × (blank.parts ≡ J.parts) }
     requires network { network.now ≡ J.network }
     requires kept { J.keeping ≡ All }
@@ -41,10 +40,10 @@ pub fn ends_alone<J: Job, R: Wait + Clock>(
         shared.halt(rt);
     }
     let why = match workers.pop() {
-        Some(seat) => work(rt, &shared, &Always(answer), seat, 1_000).why(),
+        Some(seat) => work(rt, &shared, gate, seat, 1_000).why(),
         None => None,
     };
-    Ok(why == Some(wanted) && is_ready(&shared.try_snapshot(alloc)?))
+    Ok((why, shared.try_snapshot(alloc)?))
 }
 
 /// Whether the one process of a run is ready.
@@ -57,13 +56,24 @@ pub fn is_ready(view: &Option<View>) -> bool {
 
 #[test]
 fn a_worker_tells_why_it_ends(rt: HostRuntime) -> Result<(), Fail> {
+    let network = spinning(rt.alloc())?;
     for (most, is_told, answer, wanted) in [
         (u64::MAX, true, Go::On, Why::Halted),
         (u64::MAX, false, Go::Abandon, Why::Abandoned),
         (100, false, Go::On, Why::Limit),
     ] {
-        let scene = Scene::EndsAlone(most, is_told, answer, wanted);
-        assert!(rt; plays(&rt, rt.alloc(), SPINNING, scene)?, "{wanted:?}");
+        let gate = Always(answer);
+        let blank = Blank::new(1);
+        let (why, view) = ends_alone::<Brand, Always, HostRuntime>(
+            &rt,
+            rt.alloc(),
+            blank,
+            &network,
+            most,
+            is_told,
+            &gate,
+        )?;
+        assert!(rt; why == Some(wanted) && is_ready(&view), "{wanted:?}");
     }
     Ok(())
 }

@@ -39,8 +39,6 @@ mod resting;
 #[cfg(test)]
 mod runs;
 #[cfg(test)]
-mod scenes;
-#[cfg(test)]
 mod serving;
 #[cfg(test)]
 mod turns;

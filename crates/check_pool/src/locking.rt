@@ -3,13 +3,13 @@ ghost use Rattle.std.specs.Prelude.{◌≡◌};
 ghost use Rattle.kpn_history.specs.declared.keeping.Keeping.TheVariants.{All};
 
 use crate::flag::Flag;
-use crate::networks::{SPINNING, summing};
-use crate::scenes::{Scene, plays};
+use crate::networks::{spinning, summing};
 use crate::turns::MOST_TURNS;
 use kpn_net::Network;
 use kpn_pool::{Opened, Shared, work};
 use kpn_pool_desk::{Gate, Go, Job, Why, WorkerSeat};
 use std::alloc::{AllocError, Global};
+use std::marker::Brand;
 use std::sync::Wait;
 use std::sync::ledger::Blank;
 use std::test::Fail;
@@ -49,7 +49,7 @@ impl Gate for Door {
 
 /// Which snapshots are counted while one worker is at work.
 #[derive(Clone, Copy)]
-pub enum Looks {
+enum Looks {
     /// Those that show a process that is held, before the worker has come to the door for the first time.
     Held,
     /// Those that are not given, since the lock is taken. They are asked for with pauses, so their part of all is that
@@ -93,15 +93,15 @@ fn times_taken<J: Job, R: Clock>(
     taken
 }
 
-/// Counts snapshots while one worker is at work, and returns whether it ends and there are as many as there have to be.
-/// If those before the door are counted it is shut.
+/// Counts snapshots while one worker is at work, and returns why this ends. If those before the door are counted it is
+/// shut.
 fn work_and_look<J: Job + Send + Sync, R: Threads + Wait + Clock + Sync>(
     rt: &R,
     alloc: Global,
     shared: &Shared<'_, J>,
     seat: WorkerSeat<J>,
     looks: Looks,
-) -> bool {
+) -> (u64, Option<Why>) {
     let door = &Door {
         reached: Flag::new(),
         shut: Flag::new(),
@@ -117,20 +117,17 @@ fn work_and_look<J: Job + Send + Sync, R: Threads + Wait + Clock + Sync>(
             Looks::Taken => times_taken(rt, alloc, shared, door),
         },
     );
-    match looks {
-        Looks::Held => count >= 100 && seat.why() == Some(Why::Abandoned),
-        Looks::Taken => count < LOOKS * 4 / 10 && seat.why().is_some(),
-    }
+    (count, seat.why())
 }
 
 /// The same, of a run that is opened for it.
-pub fn is_seen<J: Job + Send + Sync, R: Threads + Wait + Clock + Sync>(
+fn seen_while_working<J: Job + Send + Sync, R: Threads + Wait + Clock + Sync>(
     rt: &R,
     alloc: Global,
     blank: Blank,
     network: &Network,
     looks: Looks,
-) -> Result<bool, AllocError>
+) -> Result<(u64, Option<Why>), AllocError>
     requires ledger { (blank.name ≡ J.name) × (blank.parts ≡ J.parts) }
     requires network { network.now ≡ J.network }
     requires kept { J.keeping ≡ All }
@@ -143,7 +140,7 @@ pub fn is_seen<J: Job + Send + Sync, R: Threads + Wait + Clock + Sync>(
         ..
     } = opened;
     let Some(seat) = workers.pop() else {
-        return Ok(false);
+        return Ok((0, None));
     };
     Ok(work_and_look(rt, alloc, &shared, seat, looks))
 }
@@ -151,7 +148,19 @@ pub fn is_seen<J: Job + Send + Sync, R: Threads + Wait + Clock + Sync>(
 /// A worker makes 100,000,000 steps, and many snapshots are given meanwhile.
 #[test]
 fn refutes_holds_the_lock_while_stepping(rt: HostRuntime) -> Result<(), Fail> {
-    assert!(rt; plays(&rt, rt.alloc(), SPINNING, Scene::IsSeen(Looks::Held))?);
+    let network = spinning(rt.alloc())?;
+    let blank = Blank::new(1);
+    let (held, why) = seen_while_working::<Brand, HostRuntime>(
+        &rt,
+        rt.alloc(),
+        blank,
+        &network,
+        Looks::Held,
+    )?;
+    assert!(rt;
+        held >= 100 && why == Some(Why::Abandoned),
+        "{held} snapshots"
+    );
     Ok(())
 }
 
@@ -159,7 +168,19 @@ fn refutes_holds_the_lock_while_stepping(rt: HostRuntime) -> Result<(), Fail> {
 /// time. One that does not has it for a small part: for two commits at each item.
 #[test]
 fn refutes_evaluates_under_the_lock(rt: HostRuntime) -> Result<(), Fail> {
-    let text = summing(rt.alloc())?;
-    assert!(rt; plays(&rt, rt.alloc(), text.as_str(), Scene::IsSeen(Looks::Taken))?);
+    let network = summing(rt.alloc())?;
+    let blank = Blank::new(1);
+    let (taken, why) = seen_while_working::<Brand, HostRuntime>(
+        &rt,
+        rt.alloc(),
+        blank,
+        &network,
+        Looks::Taken,
+    )?;
+    let most = LOOKS * 4 / 10;
+    assert!(rt;
+        taken < most && why.is_some(),
+        "taken at {taken} of {LOOKS} looks"
+    );
     Ok(())
 }

@@ -4,14 +4,14 @@ ghost use Rattle.kpn_history.specs.declared.keeping.Keeping.TheVariants.{All};
 ghost use Rattle.kpn_pool_desk.specs.Invariant.{AreBelowLeast, HasNoneLeftToGrow};
 
 use crate::always::Always;
-use crate::networks::THREE_SPINNING;
-use crate::scenes::{Scene, plays};
+use crate::networks::three_spinning;
 use crate::turns::MOST_TURNS;
 use crate::working::both_work;
 use kpn_net::Network;
 use kpn_pool::{Opened, Shared};
 use kpn_pool_desk::{Desk, Go, Job, Why, WorkerSeat};
 use std::alloc::{AllocError, Global};
+use std::marker::Brand;
 use std::sync::Wait;
 use std::sync::ledger::Blank;
 use std::test::Fail;
@@ -53,14 +53,14 @@ fn looks<J: Job, R: Wait>(rt: &R, shared: &Shared<'_, J>) -> bool {
     false
 }
 
-/// Two workers at once while the calling thread looks. Returns whether they end at the limit, and the looks find what
-/// they have to.
+/// Two workers at once while the calling thread looks. Returns why they end, and whether the looks find what they have
+/// to.
 fn work_and_look<J: Job + Send + Sync, R: Threads + Wait + Clock + Sync>(
     rt: &R,
     shared: &Shared<'_, J>,
     first: WorkerSeat<J>,
     second: WorkerSeat<J>,
-) -> bool {
+) -> (Option<Why>, Option<Why>, bool) {
     let gate = &Always(Go::On);
     let (seats, found) = thread::join(
         rt,
@@ -68,16 +68,16 @@ fn work_and_look<J: Job + Send + Sync, R: Threads + Wait + Clock + Sync>(
         move || looks(rt, shared),
     );
     let (first, second) = seats;
-    found && first.why() == Some(Why::Limit) && second.why() == Some(Why::Limit)
+    (first.why(), second.why(), found)
 }
 
 /// The same, of a run that is opened for it.
-pub fn looks_on<J: Job + Send + Sync, R: Threads + Wait + Clock + Sync>(
+fn seen_while_working<J: Job + Send + Sync, R: Threads + Wait + Clock + Sync>(
     rt: &R,
     alloc: Global,
     blank: Blank,
     network: &Network,
-) -> Result<bool, AllocError>
+) -> Result<(Option<Why>, Option<Why>, bool), AllocError>
     requires ledger { (blank.name ≡ J.name) × (blank.parts ≡ J.parts) }
     requires network { network.now ≡ J.network }
     requires kept { J.keeping ≡ All }
@@ -91,13 +91,15 @@ pub fn looks_on<J: Job + Send + Sync, R: Threads + Wait + Clock + Sync>(
         sinks: _,
     } = opened;
     let (Some(second), Some(first)) = (workers.pop(), workers.pop()) else {
-        return Ok(false);
+        return Ok((None, None, false));
     };
     Ok(work_and_look(rt, &shared, first, second))
 }
 
 #[test]
 fn a_look_while_two_workers_run(rt: HostRuntime) -> Result<(), Fail> {
-    assert!(rt; plays(&rt, rt.alloc(), THREE_SPINNING, Scene::LooksOn)?);
+    let network = three_spinning(rt.alloc())?;
+    let seen = seen_while_working::<Brand, HostRuntime>(&rt, rt.alloc(), Blank::new(2), &network)?;
+    assert_eq!(rt; seen, (Some(Why::Limit), Some(Why::Limit), true));
     Ok(())
 }

@@ -3,14 +3,14 @@ ghost use Rattle.std.specs.Prelude.{◌≡◌};
 ghost use Rattle.kpn_history.specs.declared.keeping.Keeping.TheVariants.{All};
 
 use crate::holding::{Held, Holding};
-use crate::networks::{TWO_READERS, TWO_SEVENS};
-use crate::scenes::{Scene, plays};
+use crate::networks::{two_readers, two_sevens};
 use crate::turns::MOST_TURNS;
 use crate::working::both_work;
 use kpn_net::Network;
 use kpn_pool::{Opened, Shared, gather};
 use kpn_pool_desk::{Gate, Go, Job, Why, WorkerSeat};
 use std::alloc::{AllocError, Global};
+use std::marker::Brand;
 use std::sync::Wait;
 use std::sync::ledger::Blank;
 use std::test::Fail;
@@ -63,17 +63,17 @@ fn work_till_met<J: Job + Send + Sync, R: Threads + Wait + Clock + Sync>(
     (first, second, holding.have_met())
 }
 
-/// Whether two workers, which are allowed this many commits, meet, both end for this reason, and make this many: by
-/// their seats, and by the book.
-pub fn meet<J: Job + Send + Sync, R: Threads + Wait + Clock + Sync>(
+/// Whether two workers met, why they ended, and the commits of the two seats and of the book.
+type Met = (bool, (Option<Why>, Option<Why>), (u64, u64));
+
+/// What comes of two workers, which are allowed this many commits.
+fn meet<J: Job + Send + Sync, R: Threads + Wait + Clock + Sync>(
     rt: &R,
     alloc: Global,
     blank: Blank,
     network: &Network,
-    why: Why,
     most: u64,
-    made: u64,
-) -> Result<bool, AllocError>
+) -> Result<Option<Met>, AllocError>
     requires ledger { (blank.name ≡ J.name) × (blank.parts ≡ J.parts) }
     requires network { network.now ≡ J.network }
     requires kept { J.keeping ≡ All }
@@ -86,28 +86,32 @@ pub fn meet<J: Job + Send + Sync, R: Threads + Wait + Clock + Sync>(
         ..
     } = opened;
     let (Some(second), Some(first)) = (workers.pop(), workers.pop()) else {
-        return Ok(false);
+        return Ok(None);
     };
     let (first, second, have_met) = work_till_met(rt, alloc, &shared, first, second);
-    let have_ended = first.why() == Some(why) && second.why() == Some(why);
+    let whys = (first.why(), second.why());
     let sum = first.commits().saturating_add(second.commits());
     let book = gather(shared, vec![in alloc; first, second]?);
-    Ok(have_met && have_ended && sum == made && book.commits() == made)
+    Ok(Some((have_met, whys, (sum, book.commits()))))
 }
 
 /// Both are at work at once, with the lock free while the gate is asked. Each of the two processes writes once and
 /// ends.
 #[test]
 fn refutes_one_worker_steps_everything(rt: HostRuntime) -> Result<(), Fail> {
-    let scene = Scene::Meet(Why::Limit, 4, 4);
-    assert!(rt; plays(&rt, rt.alloc(), TWO_SEVENS, scene)?);
+    let network = two_sevens(rt.alloc())?;
+    let met = meet::<Brand, HostRuntime>(&rt, rt.alloc(), Blank::new(2), &network, 4)?;
+    let limit = Some(Why::Limit);
+    assert_eq!(rt; met, Some((true, (limit, limit), (4, 4))));
     Ok(())
 }
 
 /// The same if each of the two processes waits for the other one.
 #[test]
 fn two_workers_settle(rt: HostRuntime) -> Result<(), Fail> {
-    let scene = Scene::Meet(Why::Settled, 9, 2);
-    assert!(rt; plays(&rt, rt.alloc(), TWO_READERS, scene)?);
+    let network = two_readers(rt.alloc())?;
+    let met = meet::<Brand, HostRuntime>(&rt, rt.alloc(), Blank::new(2), &network, 9)?;
+    let settled = Some(Why::Settled);
+    assert_eq!(rt; met, Some((true, (settled, settled), (2, 2))));
     Ok(())
 }

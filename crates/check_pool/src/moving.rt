@@ -3,12 +3,12 @@ ghost use Rattle.std.specs.Prelude.{◌≡◌};
 ghost use Rattle.kpn_history.specs.declared.keeping.Keeping.TheVariants.{All};
 
 use crate::always::Always;
-use crate::networks::COPYING_NINE;
-use crate::scenes::{Scene, plays};
+use crate::networks::copying;
 use kpn_net::Network;
 use kpn_pool::{Opened, Shared, feed_when_room, take_each, take_when_due, take_when_there, work};
 use kpn_pool_desk::{Awaited, Go, Job, Refused, SinkSeat};
 use std::alloc::{AllocError, Global};
+use std::marker::Brand;
 use std::sync::Wait;
 use std::sync::ledger::Blank;
 use std::test::Fail;
@@ -16,7 +16,7 @@ use std::time::Clock;
 
 /// By which call all items are taken.
 #[derive(Clone, Copy, Debug)]
-pub enum Call {
+enum Call {
     Each,
     WhenDue,
     WhenThere,
@@ -47,7 +47,7 @@ const THREE: u64 = 6;
 
 /// Feeds three items by one call, lets a worker copy them until it has reached the limit of commits, and takes them by
 /// one call. Returns whether all come.
-pub fn moves_all<J: Job, R: Wait + Clock>(
+fn moves_all<J: Job, R: Wait + Clock>(
     rt: &R,
     alloc: Global,
     blank: Blank,
@@ -81,9 +81,11 @@ pub fn moves_all<J: Job, R: Wait + Clock>(
 
 #[test]
 fn one_call_moves_all(rt: HostRuntime) -> Result<(), Fail> {
+    let network = copying(rt.alloc(), 9)?;
     for call in [Call::Each, Call::WhenDue, Call::WhenThere] {
-        let scene = Scene::MovesAll(call);
-        assert!(rt; plays(&rt, rt.alloc(), COPYING_NINE, scene)?, "{call:?}");
+        let blank = Blank::new(1);
+        let moved = moves_all::<Brand, HostRuntime>(&rt, rt.alloc(), blank, &network, call)?;
+        assert!(rt; moved, "{call:?}");
     }
     Ok(())
 }

@@ -1,84 +1,157 @@
-//! The descriptions of the networks of the tests.
+//! The networks of the tests: in each, all processes have one program.
+use kpn_lang::{Expr, Op, Program, Sequence, Stmt};
+use kpn_net::ChannelSpec::{Inner, Sink, Source};
+use kpn_net::{ChannelSpec, Growth, Instance, Network, Policy};
 use std::alloc::{AllocError, Global};
+use std::test::Fail;
+
+/// No capacity is greater.
+const LIMIT: u32 = 1_000;
+
+/// The channels that a process reads, and those that it writes.
+type Ports<'a> = (&'a [usize], &'a [usize]);
+
+/// A process for each of these ports.
+fn processes(
+    alloc: Global,
+    program: Program,
+    ports: &[Ports],
+    channels: &[ChannelSpec],
+) -> Result<Network, Fail> {
+    let mut instances = Vec::new(alloc);
+    for (ins, outs) in ports {
+        instances.push(Instance {
+            program: 0,
+            ins: Sequence::from_vec(ins.to_vec(alloc)?),
+            outs: Sequence::from_vec(outs.to_vec(alloc)?),
+            pars: Sequence::from_vec(Vec::new(alloc)),
+        })?;
+    }
+    let programs = vec![in alloc; program]?;
+    Ok(Network::new(
+        alloc,
+        programs,
+        instances,
+        channels.to_vec(alloc)?,
+        LIMIT,
+        Policy::Cycles,
+        Growth::One,
+    )?)
+}
+
+/// `while 1 { .. }`
+fn forever(
+    alloc: Global,
+    ins: usize,
+    outs: usize,
+    locals: usize,
+    body: Vec<Stmt>,
+) -> Result<Program, Fail> {
+    let first = vec![in alloc; Stmt::While(Expr::Num(1), 1)]?;
+    let blocks = vec![in alloc; first, body]?;
+    Ok(Program::new(alloc, ins, outs, 0, locals, blocks)?)
+}
 
 /// Processes 0 and 1 write 7 once, each to the sink with its number.
-pub const TWO_SEVENS: &str = "process one(out z) { write z 7; }
-network { sink a cap 1; sink b cap 1; p = one(; a); q = one(; b); }
-";
+pub fn two_sevens(alloc: Global) -> Result<Network, Fail> {
+    let body = vec![in alloc; Stmt::Write(0, Expr::Num(7))]?;
+    let seven = Program::new(alloc, 0, 1, 0, 0, vec![in alloc; body]?)?;
+    let ports: [Ports; 2] = [(&[], &[0]), (&[], &[1])];
+    processes(alloc, seven, &ports, &[Sink(1), Sink(1)])
+}
 
 /// Processes 0 to 8 write 7 once, each to the sink with its number.
-pub const NINE_SEVENS: &str = "process one(out z) { write z 7; }
-network {
-  sink a cap 1; sink b cap 1; sink c cap 1; sink d cap 1; sink e cap 1; sink f cap 1;
-  sink g cap 1; sink h cap 1; sink i cap 1;
-  j = one(; a); k = one(; b); l = one(; c); m = one(; d); n = one(; e); o = one(; f);
-  p = one(; g); q = one(; h); r = one(; i);
+pub fn nine_sevens(alloc: Global) -> Result<Network, Fail> {
+    let body = vec![in alloc; Stmt::Write(0, Expr::Num(7))]?;
+    let seven = Program::new(alloc, 0, 1, 0, 0, vec![in alloc; body]?)?;
+    let ports: [Ports; 9] = [
+        (&[], &[0]),
+        (&[], &[1]),
+        (&[], &[2]),
+        (&[], &[3]),
+        (&[], &[4]),
+        (&[], &[5]),
+        (&[], &[6]),
+        (&[], &[7]),
+        (&[], &[8]),
+    ];
+    processes(alloc, seven, &ports, &[Sink(1); 9])
 }
-";
 
 /// Two processes, each of which first reads what the other writes.
-pub const TWO_READERS: &str = "process echo(in i; out o) { read i x; write o x; }
-network { channel a cap 1; channel b cap 1; p = echo(a; b); q = echo(b; a); }
-";
+pub fn two_readers(alloc: Global) -> Result<Network, Fail> {
+    let body = vec![in alloc; Stmt::Read(0, 0), Stmt::Write(0, Expr::Var(0))]?;
+    let reader = Program::new(alloc, 1, 1, 0, 1, vec![in alloc; body]?)?;
+    let ports: [Ports; 2] = [(&[0], &[1]), (&[1], &[0])];
+    processes(alloc, reader, &ports, &[Inner(1), Inner(1)])
+}
 
 /// A process that steps for ever.
-pub const SPINNING: &str = "process spin() { while 1 { } }
-network { s = spin(;); }
-";
+pub fn spinning(alloc: Global) -> Result<Network, Fail> {
+    let spin = forever(alloc, 0, 0, 0, Vec::new(alloc))?;
+    let ports: [Ports; 1] = [(&[], &[])];
+    processes(alloc, spin, &ports, &[])
+}
 
 /// Three processes that step for ever.
-pub const THREE_SPINNING: &str = "process spin() { while 1 { } }
-network { p = spin(;); q = spin(;); r = spin(;); }
-";
+pub fn three_spinning(alloc: Global) -> Result<Network, Fail> {
+    let spin = forever(alloc, 0, 0, 0, Vec::new(alloc))?;
+    let ports: [Ports; 3] = [(&[], &[]), (&[], &[]), (&[], &[])];
+    processes(alloc, spin, &ports, &[])
+}
 
-/// A process that copies the source 0 to the sink 1, of capacity 9.
-pub const COPYING_NINE: &str = "process copy(in i; out o) { while 1 { read i x; write o x; } }
-network { source s; sink z cap 9; c = copy(s; z); }
-";
+/// A process that copies its first channel to its second one, for each of these pairs.
+fn copies(alloc: Global, ports: &[Ports], channels: &[ChannelSpec]) -> Result<Network, Fail> {
+    let body = vec![in alloc; Stmt::Read(0, 0), Stmt::Write(0, Expr::Var(0))]?;
+    let copy = forever(alloc, 1, 1, 1, body)?;
+    processes(alloc, copy, ports, channels)
+}
 
-/// The same of capacity 64.
-pub const COPYING_MANY: &str = "process copy(in i; out o) { while 1 { read i x; write o x; } }
-network { source s; sink z cap 64; c = copy(s; z); }
-";
+/// A process that copies the source 0 to the sink 1, of this capacity.
+pub fn copying(alloc: Global, cap: u32) -> Result<Network, Fail> {
+    copies(alloc, &[(&[0], &[1])], &[Source, Sink(cap)])
+}
 
 /// Beside it, as process 1, the same once more: from the source 2 to the sink 3.
-pub const COPYING_BESIDE: &str = "process copy(in i; out o) { while 1 { read i x; write o x; } }
-network {
-  source s; sink z cap 64; source r; sink y cap 64;
-  c = copy(s; z); d = copy(r; y);
+pub fn copying_beside(alloc: Global) -> Result<Network, Fail> {
+    let ports: [Ports; 2] = [(&[0], &[1]), (&[2], &[3])];
+    copies(alloc, &ports, &[Source, Sink(64), Source, Sink(64)])
 }
-";
 
 /// A process that reads one item of the source 0.
-pub const READING: &str = "process one(in s) { read s x; }
-network { source s; p = one(s;); }
-";
+pub fn reading(alloc: Global) -> Result<Network, Fail> {
+    let body = vec![in alloc; Stmt::Read(0, 0)]?;
+    let read = Program::new(alloc, 1, 0, 0, 1, vec![in alloc; body]?)?;
+    processes(alloc, read, &[(&[0], &[])], &[Source])
+}
 
 /// A process that writes 7 for ever, to the sink 0.
-pub const POURING: &str = "process pour(out z) { while 1 { write z 7; } }
-network { sink z cap 1000; p = pour(; z); }
-";
+pub fn pouring(alloc: Global) -> Result<Network, Fail> {
+    let body = vec![in alloc; Stmt::Write(0, Expr::Num(7))]?;
+    let pour = forever(alloc, 0, 1, 0, body)?;
+    let ports: [Ports; 1] = [(&[], &[0])];
+    processes(alloc, pour, &ports, &[Sink(LIMIT)])
+}
 
-/// Writes `x` this many times as a sum, at least once, by as few levels as there can be.
-fn sum(text: &mut String, terms: u32) -> Result<(), AllocError> {
+/// Variable 0 this many times as a sum, at least one, by as few levels as there can be.
+fn sum(alloc: Global, terms: u32) -> Result<Expr, AllocError> {
     if terms < 2 {
-        return text.push_str("x");
+        return Ok(Expr::Var(0));
     }
-    text.push_str("(")?;
-    sum(text, terms / 2)?;
-    text.push_str(" + ")?;
-    sum(text, terms - terms / 2)?;
-    text.push_str(")")
+    let left = Box::new(alloc, sum(alloc, terms / 2)?)?;
+    let right = Box::new(alloc, sum(alloc, terms - terms / 2)?)?;
+    Ok(Expr::Bin(Op::Add, left, right))
 }
 
 /// A process that writes 7 to itself, and then reads each item and writes the remainder by 97 of 2,000 times as much,
 /// by nearly half as many operators as there may be nodes.
-pub fn summing(alloc: Global) -> Result<String, AllocError> {
-    let mut text = String::from_str(
-        alloc,
-        "process p(in i; out o) { write o 7; while 1 { read i x; write o (",
-    )?;
-    sum(&mut text, 2_000)?;
-    text.push_str(" % 97); } } network { channel c cap 1; p = p(c; c); }")?;
-    Ok(text)
+pub fn summing(alloc: Global) -> Result<Network, Fail> {
+    let total = Box::new(alloc, sum(alloc, 2_000)?)?;
+    let item = Expr::Bin(Op::Rem, total, Box::new(alloc, Expr::Num(97))?);
+    let first = vec![in alloc; Stmt::Write(0, Expr::Num(7)), Stmt::While(Expr::Num(1), 1)]?;
+    let body = vec![in alloc; Stmt::Read(0, 0), Stmt::Write(0, item)]?;
+    let blocks = vec![in alloc; first, body]?;
+    let program = Program::new(alloc, 1, 1, 0, 1, blocks)?;
+    let ports: [Ports; 1] = [(&[0], &[0])];
+    processes(alloc, program, &ports, &[Inner(1)])
 }

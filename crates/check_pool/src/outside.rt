@@ -4,6 +4,7 @@ ghost use Rattle.kpn_history.specs.declared.keeping.Keeping.TheVariants.{All};
 
 use crate::always::Always;
 use crate::batching::has_written;
+use crate::networks::copying;
 use crate::turns::MOST_TURNS;
 use kpn_net::Network;
 use kpn_pool::{Opened, Shared, close, feed, leave, snapshot, take, work};
@@ -17,7 +18,7 @@ use std::test::Fail;
 use std::thread;
 use std::thread::Threads;
 use std::time::Clock;
-use test_support::texts::{COPY, TWO};
+use test_support::texts::TWO;
 
 /// Whether the journals of the two channels are these.
 pub fn shows<A: Allocator>(
@@ -155,13 +156,12 @@ fn answered<J: Job, R: Wait>(
 #[test]
 fn snapshot_shows_own_feeds_alone(rt: HostRuntime) -> Result<(), Fail> {
     let alloc = rt.alloc();
-    let document = read_network(alloc, COPY.as_bytes())?;
-    let network = document.network();
+    let network = copying(alloc, 1)?;
     let other = read_network(alloc, TWO.as_bytes())?;
-    let seat = copied::<Brand, HostRuntime>(&rt, alloc, Blank::new(1), network)?;
+    let seat = copied::<Brand, HostRuntime>(&rt, alloc, Blank::new(1), &network)?;
     let mut seat = seat.expect(&rt, "a whole run");
     let no_such_end = Some(Refused::NoSuchEnd);
-    for (network, fed) in [(other.network(), no_such_end), (network, None)] {
+    for (network, fed) in [(other.network(), no_such_end), (&network, None)] {
         assert!(rt; seat.fed() == [1, 2, 3].as_slice());
         let blank = Blank::new(1);
         let refusals = answered::<Brand, HostRuntime>(&rt, alloc, blank, network, &mut seat)?;
@@ -170,7 +170,7 @@ fn snapshot_shows_own_feeds_alone(rt: HostRuntime) -> Result<(), Fail> {
     seat.forget();
     assert!(rt; seat.fed().is_empty());
     let blank = Blank::new(1);
-    let refusals = answered::<Brand, HostRuntime>(&rt, alloc, blank, network, &mut seat)?;
+    let refusals = answered::<Brand, HostRuntime>(&rt, alloc, blank, &network, &mut seat)?;
     assert_eq!(rt; refusals, (Some(SnapFault::Forgotten), None, None));
     assert!(rt; seat.fed() == [4].as_slice());
     Ok(())

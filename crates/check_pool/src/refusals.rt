@@ -5,12 +5,11 @@ ghost use Rattle.kpn_history.specs.declared.keeping.Keeping.TheVariants.{All};
 
 use crate::always::Always;
 use crate::endings::is_ready;
-use crate::networks::POURING;
+use crate::networks::{copying, pouring};
 use crate::outside::shows;
 use kpn_net::Network;
 use kpn_pool::{Opened, Shared, close, feed, feed_when_room, gather, leave, snapshot, take, work};
 use kpn_pool_desk::{Go, Job, Refused, SinkSeat, SnapFault, SourceSeat, Why};
-use kpn_text::read_network;
 use linked_list_allocator::LocalHeap;
 use std::alloc::{AllocError, Global};
 use std::marker::Brand;
@@ -19,7 +18,6 @@ use std::sync::ledger::Blank;
 use std::test::Fail;
 use std::time::Clock;
 use test_support::heaps::fill;
-use test_support::texts::COPY;
 
 /// How many bytes the heap of a test has.
 const HEAP: usize = 16_384;
@@ -242,21 +240,20 @@ fn is_poured<'a, J: Job, R: Wait + Clock>(
 #[test]
 fn refused_calls_change_nothing(rt: HostRuntime) -> Result<(), Fail> {
     let alloc = rt.alloc();
-    let document = read_network(alloc, COPY.as_bytes())?;
-    let other = read_network(alloc, POURING.as_bytes())?;
-    let (copying, pouring) = (document.network(), other.network());
+    let copying = copying(alloc, 1)?;
+    let pouring = pouring(alloc)?;
     let heap = LocalHeap::new(alloc, HEAP)?;
     let used = heap.used();
     let filling = fill(&heap).expect(&rt, "a block is left");
-    assert!(rt; !opens::<Brand>(&heap, Blank::new(1), copying));
+    assert!(rt; !opens::<Brand>(&heap, Blank::new(1), &copying));
     filling.destroy_empty();
     assert_eq!(rt; heap.used(), used);
-    assert!(rt; opens::<Brand>(&heap, Blank::new(1), copying));
-    let fed = is_fed::<Brand, HostRuntime>(&rt, alloc, &heap, Blank::new(1), copying)?;
+    assert!(rt; opens::<Brand>(&heap, Blank::new(1), &copying));
+    let fed = is_fed::<Brand, HostRuntime>(&rt, alloc, &heap, Blank::new(1), &copying)?;
     assert!(rt; fed);
-    let gathered = is_gathered::<Brand, HostRuntime>(&rt, &heap, Blank::new(1), copying)?;
+    let gathered = is_gathered::<Brand, HostRuntime>(&rt, &heap, Blank::new(1), &copying)?;
     assert!(rt; gathered);
-    let poured = is_poured::<Brand, HostRuntime>(&rt, alloc, &heap, Blank::new(1), pouring)?;
+    let poured = is_poured::<Brand, HostRuntime>(&rt, alloc, &heap, Blank::new(1), &pouring)?;
     assert!(rt; poured);
     Ok(())
 }

@@ -13,7 +13,7 @@ use std::marker::Brand;
 use std::sync::ledger::Blank;
 use std::test::Fail;
 
-/// Numbers through a copy to a process that counts them and tells each thousandth: enough that the network is cut.
+/// Numbers through a copy to a process that counts them and tells each thousandth: so many that the network is cut.
 const LONG: &str = "process count(out o) { k = 0; while (k < 18000) { write o k; k = (k + 1); } }
 process copy(in i; out o) { while 1 { read i x; write o x; } }
 process tell(in i; out o) {

@@ -3,13 +3,13 @@ ghost use Rattle.std.specs.Prelude.{◌≡◌};
 ghost use Rattle.kpn_history.specs.declared.keeping.Keeping.TheVariants.{All};
 
 use crate::gates::HoldingThree;
-use crate::networks::THREE_SPINNING;
-use crate::scenes::{Scene, plays};
+use crate::networks::three_spinning;
 use crate::working::three_work;
 use kpn_net::Network;
 use kpn_pool::{Opened, Shared};
 use kpn_pool_desk::{Job, Why};
 use std::alloc::{AllocError, Global};
+use std::marker::Brand;
 use std::sync::Wait;
 use std::sync::ledger::Blank;
 use std::test::Fail;
@@ -18,7 +18,7 @@ use std::time::Clock;
 
 /// Whether three workers of a network come to be held at once, after turns so short that all but one have rested, and
 /// then end as the gate has it.
-pub fn are_held_at_once<J: Job + Send + Sync, R: Threads + Wait + Clock + Sync>(
+fn are_held_at_once<J: Job + Send + Sync, R: Threads + Wait + Clock + Sync>(
     rt: &R,
     alloc: Global,
     blank: Blank,
@@ -49,6 +49,13 @@ pub fn are_held_at_once<J: Job + Send + Sync, R: Threads + Wait + Clock + Sync>(
 
 #[test]
 fn those_that_rest_come_to_ready_work(rt: HostRuntime) -> Result<(), Fail> {
-    assert!(rt; plays(&rt, rt.alloc(), THREE_SPINNING, Scene::AreHeldAtOnce)?);
+    let network = three_spinning(rt.alloc())?;
+    let are_held = are_held_at_once::<Brand, HostRuntime>(
+        &rt,
+        rt.alloc(),
+        Blank::new(3),
+        &network,
+    )?;
+    assert!(rt; are_held);
     Ok(())
 }

@@ -4,7 +4,6 @@ ghost use Rattle.kpn_net.specs.Iteration.{sources};
 
 use crate::abandoning::TestGate;
 use crate::holding::Held;
-use crate::networks::{SPINNING, TWO_SEVENS};
 use kpn_book::{Limits, Outcome, Report, run_here};
 use kpn_history::{Event, History};
 use kpn_lang::Sequence;
@@ -20,6 +19,16 @@ use std::time::Clock;
 use test_support::texts::{COPY, TWO};
 
 const EMPTY: &str = "network { }";
+
+/// Processes 0 and 1 write 7 once, each to a sink of its own.
+const SEVENS: &str = "process one(out z) { write z 7; }
+network { sink a cap 1; sink b cap 1; p = one(; a); q = one(; b); }
+";
+
+/// A process that steps for ever.
+const SPINNER: &str = "process spin() { while 1 { } }
+network { s = spin(;); }
+";
 
 /// A process that writes an item to a sink, beside one that steps for ever.
 const SPIN: &str = "process w(out z) { write z 312; }
@@ -50,7 +59,7 @@ process copy(in i; out o) { while 1 { read i x; write o x; } }
 network { source r; source s; sink z cap 1; d = drop(r;); c = copy(s; z); }
 ";
 
-/// Numbers through two copies to a sink: enough that workers whose gate lets everything through cut the network.
+/// Numbers through two copies to a sink: so many that workers whose gate lets everything through cut the network.
 const LONG: &str = "process count(out o) { k = 0; while (k < 9000) { write o k; k = (k + 1); } }
 process copy(in i; out o) { while 1 { read i x; write o x; } }
 network {
@@ -374,7 +383,7 @@ fn a_gate_that_always_abandons(rt: HostRuntime) -> Result<(), Fail> {
     for (text, workers, limits, outcome) in [
         (EMPTY, 2, ALL, Ok(Outcome::Ended)),
         (TWO, 2, ALL, Err(RunFault::Abandoned)),
-        (SPINNING, 1, FEW, Err(RunFault::Abandoned)),
+        (SPINNER, 1, FEW, Err(RunFault::Abandoned)),
     ] {
         assert_eq!(rt;
             comes_to(&rt, rt.alloc(), text, workers, 0, u64::MAX, &limits)?,
@@ -407,7 +416,7 @@ fn first_event<R: Threads + Wait + Clock + Sync>(
     held: Held,
 ) -> Result<Option<Event>, Fail> {
     let gate = TestGate::holds(held, false);
-    let ran = run_text(rt, alloc, TWO_SEVENS, &[], 2, &gate, &ALL)?;
+    let ran = run_text(rt, alloc, SEVENS, &[], 2, &gate, &ALL)?;
     let Some(
         Beside {
             workers: Ok(told),

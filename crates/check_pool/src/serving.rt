@@ -15,7 +15,7 @@ use std::thread::Threads;
 use std::time::Clock;
 use test_support::texts::COPY;
 
-/// The items are the numbers from 1 to this one: enough that workers run regions.
+/// The items are the numbers from 1 to this one: so many that workers run regions.
 const LAST: i64 = 3_000;
 
 /// Their sum.

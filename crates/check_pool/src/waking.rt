@@ -4,8 +4,7 @@ ghost use Rattle.std.specs.Prelude.{◌≡◌};
 ghost use Rattle.kpn_history.specs.declared.keeping.Keeping.TheVariants.{All};
 
 use crate::gates::Pausing;
-use crate::networks::{COPYING_BESIDE, COPYING_MANY, READING};
-use crate::scenes::{Scene, plays};
+use crate::networks::{copying, copying_beside, reading};
 use crate::working::both_work;
 use kpn_net::Network;
 use kpn_pool::{Opened, Shared, close, feed, take_when_due};
@@ -18,7 +17,6 @@ use std::test::Fail;
 use std::thread;
 use std::thread::Threads;
 use std::time::{Clock, Duration, Instant};
-use test_support::texts::COPY;
 
 /// How many runs there are of each kind.
 const RUNS: u32 = 20;
@@ -39,7 +37,7 @@ const LATE: u64 = 500;
 
 /// What the outside does while two workers are at work.
 #[derive(Clone, Copy, Debug)]
-pub enum Task {
+enum Task {
     /// It feeds items one by one, each once the one before it has come to the last sink.
     HandsOver,
     /// It closes the source, of which the only process waits for an item.
@@ -163,40 +161,44 @@ fn comes_to<J: Job + Send + Sync, R: Threads + Wait + Clock + Sync>(
     Ok(work_and_serve(rt, opened, &Pausing::new(held), task))
 }
 
-/// Whether fewer than half of the runs of a network by two workers are late, all go well, and the workers end so.
-pub fn are_in_time<R: Threads + Wait + Clock + Sync>(
+/// How many runs of a network by two workers are late. `None` if one did not go well, or a worker ended otherwise.
+fn late_runs<R: Threads + Wait + Clock + Sync>(
     rt: &R,
     alloc: Global,
     network: &Network,
     held: Option<usize>,
     task: Task,
     why: Why,
-) -> Result<bool, Fail> {
+) -> Result<Option<u32>, Fail> {
     let mut late: u32 = 0;
     for _ in 0..RUNS {
         let begun = Instant::now(rt)?;
         let seen = comes_to::<Brand, R>(rt, alloc, Blank::new(2), network, held, task)?;
         if seen != Some((true, Some(why), Some(why))) {
-            return Ok(false);
+            return Ok(None);
         }
         if begun.elapsed(rt)? > Duration::from_millis(LATE) {
             late = late.saturating_add(1);
         }
     }
-    Ok(late < RUNS / 2)
+    Ok(Some(late))
 }
 
 /// An item is fed once the workers rest, and the thread that serves the sinks sleeps before it comes there: on a
-/// sink that is then full, on one that is not half full, and by a gate that holds the other worker.
+/// sink that is then full, on one that is not half full, and behind a gate that holds the other worker.
 #[test]
 fn items_go_from_hand_to_hand(rt: HostRuntime) -> Result<(), Fail> {
-    for (text, held) in [
-        (COPY, None),
-        (COPYING_MANY, None),
-        (COPYING_BESIDE, Some(0)),
+    let alloc = rt.alloc();
+    for (network, held) in [
+        (copying(alloc, 1)?, None),
+        (copying(alloc, 64)?, None),
+        (copying_beside(alloc)?, Some(0)),
     ] {
-        let scene = Scene::AreInTime(held, Task::HandsOver, Why::Halted);
-        assert!(rt; plays(&rt, rt.alloc(), text, scene)?, "{text}");
+        let late = late_runs(&rt, alloc, &network, held, Task::HandsOver, Why::Halted)?;
+        assert!(rt;
+            late.is_some_and(|late| late < RUNS / 2),
+            "{held:?}: {late:?} late"
+        );
     }
     Ok(())
 }
@@ -204,13 +206,18 @@ fn items_go_from_hand_to_hand(rt: HostRuntime) -> Result<(), Fail> {
 /// All workers end at once, if a call of the outside or a commit settles the run or the outside halts it.
 #[test]
 fn all_workers_end_at_once(rt: HostRuntime) -> Result<(), Fail> {
+    let alloc = rt.alloc();
+    let network = reading(alloc)?;
     for (task, why) in [
         (Task::Closes, Why::Settled),
         (Task::FeedsAndCloses, Why::Settled),
         (Task::Halts, Why::Halted),
     ] {
-        let scene = Scene::AreInTime(None, task, why);
-        assert!(rt; plays(&rt, rt.alloc(), READING, scene)?, "{task:?}");
+        let late = late_runs(&rt, alloc, &network, None, task, why)?;
+        assert!(rt;
+            late.is_some_and(|late| late < RUNS / 2),
+            "{task:?}: {late:?} late"
+        );
     }
     Ok(())
 }

@@ -1,5 +1,5 @@
 use Rattle.kpn_history.specs.declared.keeping.Keeping.TheVariants.{All}
-use Rattle.check_pool.proofs.waking.are_in_time.Given as goal
+use Rattle.check_pool.proofs.waking.late_runs.Given as goal
 
 abbrev pub ghosts-comes_to-J-Job : goal.ghosts-comes_to-J-Job
 ghosts-comes_to-J-Job g a = record { network = a.network.now; keeping = All }
