@@ -81,7 +81,7 @@ network { source price; sink mean cap 1; m = means(price, mean, 3); }
 PRICES_ADVICE = [
     ('A comment begins with `#`', '//', '#'), ('with no word before it', 'int sum', 'sum'),
     ('Parenthesize each operator with two sides', 'sum + p', '(sum + p)'),
-    ('here may stand: NAME', ', 3)', '; 3)'), ('here may stand: `;` NAME', 'price, mean', 'price; mean')]
+    ('the values of an instance stand between `;`', 'price, mean, 3', 'price; mean; 3')]
 ROOTS = '''language 2;
 process gradient(in i; out o) { while 1 { read i x; write o x - last; last = x; } }
 process root(in i; out o) { while 1 { read i x; s = 0; while s * s < x * x { s = s + 1; } write o s; } }
@@ -257,7 +257,10 @@ class Words(unittest.TestCase):
         self.assertIn('long_echo.kpn:6:13: `second` ended at `line[at]`, where at = 4, line has 4 cells\n', said)
         self.assertIn('deadlock: r waits on power for c, c waits on heat for r; one of them has to write before',
                       self.behind('run', 'room.kpn', '--source', 'wanted=many', status=0))
-        self.assertIn("stereo.kpn:6:65: `half` can't balance: ", self.behind('check', 'stereo.kpn', status=0))
+        self.assertIn(': a ring from the start', self.behind('check', 'room.kpn', status=0))
+        said = ("stereo.kpn:6:65: `half` can't balance: by the other channels `h` puts 1 item there where `m` gets 2 "
+                'items\n')
+        self.assertEqual(self.behind('check', 'stereo.kpn', status=0), said)
         file = self.folder / 'prices.kpn'
         for advice, written, better in PRICES_ADVICE:
             self.assertIn(advice, self.behind('check', 'prices.kpn', status=1))
@@ -273,6 +276,16 @@ class Words(unittest.TestCase):
                                    ('always', ['--words', 'never'], line),
                                    ('never', ['--words', 'always'], line + said)):
             self.assertEqual(self.told(*words, 'check', 'none', status=1, KPN_WORDS=value), told)
+
+    def test_the_place_of_a_fault_of_any_stream(self):
+        """A trace has the items of samples and of a pipe."""
+        for given, options in (('\x02\0', ['--format', 's=u8']), ('2\n0\n', [])):
+            words = ['--words', 'always', 'stream', 'divide.kpn', *options, '--trace', 't']
+            said = self.told(*words, status=8, given=given)
+            self.assertNotIn('divide.kpn:', said)
+            self.assertIn('says where it was', said)
+            self.assertTrue(self.behind('explain', 'divide.kpn', 't', status=0).startswith(
+                'divide.kpn:1:63: `d` ended at `100 / x`, where x = 0\n'))
 
     def told_on_a_terminal(self, *words, status):
         """The same, if standard error is a terminal."""

@@ -1,7 +1,9 @@
 //! What to do about an outcome: about a ring of processes or a fault, about a run that is clogged, jammed or stopped,
 //! and about a source without items.
 
-use crate::faults::{FedFiles, lines_of_stream, push_faults, push_meaning, unsaid_faults};
+use crate::faults::{
+    FedFiles, lines_of_stream, push_faults, push_meaning, push_traced_faults, unsaid_faults,
+};
 use crate::pieces::{file_in, has_name, has_one, is_of, is_plain, push, push_name, text_of};
 use crate::room::push_room;
 use crate::sounds::push_sounds;
@@ -69,6 +71,11 @@ pub(crate) fn push_advice<R: Files, S: Shelf>(
             }
         }
         Request::Check(file) if status == 0 => push_warnings(text, file, evidence),
+        Request::Explain {
+            file,
+            trace: Some(trace),
+            ..
+        } if status == 0 => push_traced_faults(text, file, trace, evidence),
         _ if status == 5 => push(text, MORE_STEPS),
         _ => Ok(()),
     }

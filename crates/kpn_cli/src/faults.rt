@@ -2,12 +2,12 @@
 //! The network is run once more for that, and so are these processes, if what it read are plain files.
 ghost use Rattle.std.specs.Prelude.{◌<◌, length};
 
-use crate::pieces::{file_in, has_name, is_of, is_said, push, push_name, text_of};
+use crate::pieces::{file_in, has_name, is_of, is_plain, is_said, push, push_name, text_of};
 use crate::stopped::are_short;
 use crate::words::Evidence;
 use kpn_book::{Limits, run_here};
 use kpn_command_base::{EndKind, QUOTA, load_inputs};
-use kpn_command_explain::{GottenItems, fault_text};
+use kpn_command_explain::{GottenItems, fault_text, traced_faults_text};
 use kpn_history::{History, State};
 use kpn_shelf::{STANDARD, Shelf};
 use kpn_text::Document;
@@ -125,6 +125,27 @@ fn push_places<R: Files, S: Shelf>(
     Ok(())
 }
 
+/// Adds the place of each fault in a stored trace.
+pub(crate) fn push_traced_faults<R: Files, S: Shelf>(
+    text: &mut Vec<u8>,
+    file: &str,
+    trace: &str,
+    evidence: &Evidence<'_, R, S>,
+) -> Result<(), AllocError> {
+    let (alloc, shelf) = (evidence.alloc, evidence.shelf);
+    let Some(document) = evidence.plain_document(file) else {
+        return Ok(());
+    };
+    if !is_plain(evidence.rt, trace) {
+        return Ok(());
+    }
+    let (Ok(described), Ok(stored)) = (shelf.load(alloc, file), shelf.load(alloc, trace)) else {
+        return Ok(());
+    };
+    let told = traced_faults_text(alloc, file, &described, &document, &stored)?;
+    text.extend_from_slice(&told)
+}
+
 // Whether a report tells a fault of a process of this name.
 fn is_told(report: &str, name: &str) -> bool {
     report.lines().any(|line| match fault_in(line) {
@@ -203,5 +224,5 @@ const FAULTS: [(&str, &str); 4] = [
 
 const FAULTED: &str = "\
 A process that has ended writes nothing more: its readers get what is unread, and then wait. With `--trace OUT`,
-`kpn explain FILE OUT` says after which item it was.
+`kpn explain FILE OUT` says where it was, and after which item.
 ";

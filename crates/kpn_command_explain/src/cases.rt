@@ -6,61 +6,48 @@ use crate::excess::{network_excess, process_excess};
 use crate::lines::{back, front};
 use crate::names::name_at;
 use crate::sentences::Case;
-use crate::spots::{TokenSpot, is_indexed, is_port, row_of, spot_at, start_before};
-use crate::words::{assigns_next, begins_name};
+use crate::spelled::{Spelled, written_tokens};
+use crate::spots::{TokenSpot, declared_at, is_indexed, spot_at, start_before};
+use crate::words::{assigns_next, begins_name, is_word};
 use kpn_lang::ProgramFault;
 use kpn_limits::MAX_TEXT_BYTES;
 use kpn_net::NetFault;
 use kpn_text::TextFault;
-use kpn_text_tokens::{Keyword, Language, LexFault, Lexeme, language_of, lexemes};
+use kpn_text_tokens::{Keyword, Language, language_of};
 use std::alloc::{AllocError, Global};
 
 /// The kind of a fault of a text with these tokens and these places.
-pub(crate) fn case_of<'a>(
-    alloc: Global,
-    text: &[u8],
-    tokens: &'a [Lexeme<'a>],
+pub(crate) fn case_of(
+    spelled: Spelled<'_>,
     places: FaultPlaces,
     fault: TextFault,
 ) -> Result<Case, AllocError> {
-    match fault {
-        TextFault::TooLong(_) if text.len() > MAX_TEXT_BYTES => Ok(Case::LongText),
-        TextFault::TooLong(_) => Ok(Case::LongName),
-        TextFault::Token(at) => token_case(alloc, text, at),
-        TextFault::Grammar(at) => grammar_case(alloc, text, at),
-        TextFault::UnknownName(at) => Ok(unknown_case(text, tokens, at, places.second)),
-        TextFault::DoubleName(at) => Ok(double_case(text, tokens, at)),
-        TextFault::Program(process, ProgramFault::TooMany) => Ok(Case::LargeProgram(process_excess(
-            alloc,
-            text,
-            tokens,
-            process,
-            places.first,
-        )?)),
-        TextFault::Program(_, ProgramFault::TooDeep) => Ok(Case::DeepProgram),
-        TextFault::Program(_, ProgramFault::NoMemory) => Ok(Case::NoMemory),
-        TextFault::Program(..) => Ok(Case::BrokenProgram),
-        TextFault::Net(broken) => net_case(
-            alloc,
-            text,
-            tokens,
-            name_at(text, places.first),
-            broken,
-        ),
-        TextFault::NoMemory => Ok(Case::NoMemory),
-    }
+    let first = places.first;
+    Ok(match fault {
+        TextFault::TooLong(_) if spelled.text.len() > MAX_TEXT_BYTES => Case::LongText,
+        TextFault::TooLong(_) => Case::LongName,
+        TextFault::Token(at) => token_case(spelled.alloc, spelled.text, at)?,
+        TextFault::Grammar(at) => grammar_case(spelled.alloc, spelled.text, at)?,
+        TextFault::UnknownName(at) => unknown_case(spelled, at, places.second),
+        TextFault::DoubleName(at) => double_case(spelled, at),
+        TextFault::Program(process, ProgramFault::TooMany) => {
+            Case::LargeProgram(process_excess(spelled, process, first)?)
+        }
+        TextFault::Program(_, ProgramFault::TooDeep) => Case::DeepProgram,
+        TextFault::Program(_, ProgramFault::NoMemory) => Case::NoMemory,
+        TextFault::Program(..) => Case::BrokenProgram,
+        TextFault::Net(broken) => net_case(spelled, first, broken)?,
+        TextFault::NoMemory => Case::NoMemory,
+    })
 }
 
 // If each token is whole, the fault is one of the value of a constant.
 fn token_case(alloc: Global, text: &[u8], at: usize) -> Result<Case, AllocError> {
-    let language = language_of(text);
-    match lexemes(alloc, language, text) {
-        Ok(_) => return Ok(Case::ConstantValue),
-        Err(LexFault::NoMemory) => return Err(AllocError),
-        Err(_) => {}
+    if written_tokens(alloc, text)?.is_some() {
+        return Ok(Case::ConstantValue);
     }
     let begins_number = !name_at(text, at).is_empty();
-    Ok(match language {
+    Ok(match language_of(text) {
         Language::One if begins_number => Case::BadNumber,
         Language::Two if begins_number || back(text, at).starts_with(b"'") => Case::BadNumeral,
         _ => Case::NoToken,
@@ -80,19 +67,22 @@ fn grammar_case(alloc: Global, text: &[u8], at: usize) -> Result<Case, AllocErro
     let is_name = may_stand(alloc, front, b"x")?;
     let is_meant = is_name && (assigns_next(here) || !may_stand(alloc, front, b"}")?);
     let language = language_of(text);
-    if is_keyword(language, name_at(text, at)) {
-        Ok(if is_meant {
+    let is_keyword = is_keyword(language, name_at(text, at));
+    Ok(if is_meant {
+        if is_keyword {
             Case::Reserved
         } else {
-            Case::Misplaced
-        })
-    } else if is_meant {
-        Ok(Case::Constant)
-    } else if is_name || language == Language::One || !may_stand(alloc, front, b"1")? {
-        Ok(Case::Misplaced)
+            Case::Constant
+        }
+    } else if is_name
+        || is_keyword
+        || language == Language::One
+        || !may_stand(alloc, front, b"1")?
+    {
+        Case::Misplaced
     } else {
-        Ok(Case::NoConstant)
-    }
+        Case::NoConstant
+    })
 }
 
 fn is_keyword(language: Language, name: &[u8]) -> bool {
@@ -102,78 +92,75 @@ fn is_keyword(language: Language, name: &[u8]) -> bool {
 }
 
 // A text whose constants have a fault has no tokens.
-fn unknown_case(text: &[u8], tokens: &[Lexeme<'_>], at: usize, second: Option<usize>) -> Case {
-    if tokens.is_empty() {
-        return Case::NoConstant;
-    }
-    match spot_at(tokens, at) {
+fn unknown_case(spelled: Spelled<'_>, at: usize, second: Option<usize>) -> Case {
+    match spot_at(spelled.tokens, at) {
+        _ if spelled.tokens.is_empty() => Case::NoConstant,
         TokenSpot::InPort => Case::UnknownInPort,
         TokenSpot::OutPort => Case::UnknownOutPort,
         TokenSpot::Program => Case::UnknownProcess,
         TokenSpot::Reads | TokenSpot::Writes => Case::UnknownChannel,
-        _ => variable_case(text, tokens, at, second),
+        _ => variable_case(spelled, at, second),
     }
 }
 
 // A name that is no variable, or, with an index, no array that may be set or no array or table at all.
-fn variable_case(text: &[u8], tokens: &[Lexeme<'_>], at: usize, second: Option<usize>) -> Case {
-    let is_indexed = is_indexed(tokens, at);
-    match row_of(text, tokens, at) {
+fn variable_case(spelled: Spelled<'_>, at: usize, second: Option<usize>) -> Case {
+    let is_indexed = is_indexed(spelled.tokens, at);
+    let declared = declared_at(spelled, at);
+    match declared.row {
         Some(_) if is_indexed => Case::SetTable,
-        Some(row) if is_table(text, tokens, row) => Case::WholeTable,
+        Some(row) if is_table(spelled, row) => Case::WholeTable,
         Some(_) => Case::WholeArray,
         None if is_indexed => Case::NoArray,
-        None if is_port(text, tokens, at) => Case::PortAsVariable,
+        None if declared.is_port => Case::PortAsVariable,
         None if second.is_some() => Case::LateVariable,
         None => Case::UnknownVariable,
     }
 }
 
 // Whether `table` stands before a name that is declared at this byte.
-fn is_table(text: &[u8], tokens: &[Lexeme<'_>], at: usize) -> bool {
-    name_at(text, start_before(tokens, at)) == b"table".as_slice()
+fn is_table(spelled: Spelled<'_>, at: usize) -> bool {
+    is_word(
+        back(spelled.text, start_before(spelled.tokens, at)),
+        &[b"table"],
+    )
 }
 
-fn double_case(text: &[u8], tokens: &[Lexeme<'_>], at: usize) -> Case {
-    match spot_at(tokens, at) {
-        TokenSpot::Process => Case::DoubleProcess,
-        TokenSpot::Instance => Case::DoubleInstance,
-        TokenSpot::Channel => Case::DoubleChannel,
-        TokenSpot::Port | TokenSpot::Row | TokenSpot::Shared => match row_of(text, tokens, at) {
-            Some(_) => Case::DoubleRow,
-            None => Case::DoublePort,
+fn double_case(spelled: Spelled<'_>, at: usize) -> Case {
+    let said: &'static [u8] = match spot_at(spelled.tokens, at) {
+        TokenSpot::Process => b" is the name of an earlier process too",
+        TokenSpot::Instance => b" is the name of an earlier instance too",
+        TokenSpot::Channel => b" is the name of an earlier channel too",
+        TokenSpot::Port | TokenSpot::Row | TokenSpot::Shared => match declared_at(spelled, at).row {
+            Some(_) => b" is the name of an earlier array or table too",
+            None => b" is the name of an earlier port or parameter of this process too",
         },
-        _ => target_case(text, tokens, at),
-    }
+        _ => return target_case(spelled, at),
+    };
+    Case::Double(said)
 }
 
 // What gets a value, and is no variable.
-fn target_case(text: &[u8], tokens: &[Lexeme<'_>], at: usize) -> Case {
-    let word = start_before(tokens, start_before(tokens, at));
-    match row_of(text, tokens, at) {
+fn target_case(spelled: Spelled<'_>, at: usize) -> Case {
+    let word = start_before(spelled.tokens, start_before(spelled.tokens, at));
+    match declared_at(spelled, at).row {
         None => Case::AssignedPort,
-        Some(row) if is_table(text, tokens, row) => Case::SetTable,
-        Some(_) if name_at(text, word) == b"read".as_slice() => Case::ReadArray,
+        Some(row) if is_table(spelled, row) => Case::SetTable,
+        Some(_) if is_word(back(spelled.text, word), &[b"read"]) => Case::ReadArray,
         Some(_) => Case::SetArray,
     }
 }
 
-fn net_case(
-    alloc: Global,
-    text: &[u8],
-    tokens: &[Lexeme<'_>],
-    name: &[u8],
-    fault: NetFault,
-) -> Result<Case, AllocError> {
+fn net_case(spelled: Spelled<'_>, at: usize, fault: NetFault) -> Result<Case, AllocError> {
     Ok(match fault {
-        NetFault::TooMany => Case::LargeNetwork(network_excess(alloc, text, tokens)?),
+        NetFault::TooMany => Case::LargeNetwork(network_excess(spelled)?),
         NetFault::NoSuchProgram(_) | NetFault::NoSuchChannel(_) => Case::BrokenNetwork,
         NetFault::PortCount(_) => Case::PortCount,
         NetFault::NoWriter(_) => Case::NoWriter,
         NetFault::TwoWriters(_) => Case::TwoWriters,
         NetFault::NoReader(_) => Case::NoReader,
         NetFault::TwoReaders(_) => Case::TwoReaders,
-        NetFault::Capacity(_) if name == b"network".as_slice() => Case::BadLimit,
+        NetFault::Capacity(_) if is_word(back(spelled.text, at), &[b"network"]) => Case::BadLimit,
         NetFault::Capacity(_) => Case::BadCapacity,
         NetFault::NoMemory => Case::NoMemory,
     })

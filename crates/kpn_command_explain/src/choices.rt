@@ -1,25 +1,25 @@
 //! What may stand at a place of a description: each word with which a reading of the text up to there gets further.
 
+use crate::pieces::push_all;
+use kpn_command_base::Pushed;
 use kpn_text::{TextFault, meant_tokens};
 use kpn_text_grammar::{GrammarFault, description};
 use kpn_text_tokens::{Keyword, Mark, language_of};
 use std::alloc::{AllocError, Global};
 
+// Words of settings, which no other word of the language stands for.
+const SETTINGS: [&[u8]; 4] = [b"cycles", b"all", b"one", b"double"];
+
 /// Adds all that may stand after this text, with a space before each: `;`, which is missing most often; any name, or
 /// else words of settings; any number; and each other word and mark of its language.
-pub(crate) fn push_choices(
-    alloc: Global,
-    told: &mut Vec<u8>,
-    front: &[u8],
-) -> Result<(), AllocError> {
+pub(crate) fn push_choices(alloc: Global, told: &mut Vec<u8>, front: &[u8]) -> Pushed {
     push_word(alloc, told, front, Mark::Semicolon.spelling())?;
     if may_stand(alloc, front, b"x")? {
         told.extend_from_slice(b" NAME")?;
     } else {
-        push_word(alloc, told, front, b"cycles")?;
-        push_word(alloc, told, front, b"all")?;
-        push_word(alloc, told, front, b"one")?;
-        push_word(alloc, told, front, b"double")?;
+        for word in &SETTINGS {
+            push_word(alloc, told, front, *word)?;
+        }
     }
     // The size of an array is no 0.
     if may_stand(alloc, front, b"0")? || may_stand(alloc, front, b"1")? {
@@ -40,16 +40,9 @@ pub(crate) fn push_choices(
 }
 
 // A word between backticks, if it may stand after the text.
-fn push_word(
-    alloc: Global,
-    told: &mut Vec<u8>,
-    front: &[u8],
-    word: &[u8],
-) -> Result<(), AllocError> {
+fn push_word(alloc: Global, told: &mut Vec<u8>, front: &[u8], word: &[u8]) -> Pushed {
     if may_stand(alloc, front, word)? {
-        told.extend_from_slice(b" `")?;
-        told.extend_from_slice(word)?;
-        told.push(b'`')?;
+        push_all(told, &[b" `", word, b"`"])?;
     }
     Ok(())
 }
@@ -57,9 +50,7 @@ fn push_word(
 /// Whether a word may stand after a text. The empty word may, if the text is whole.
 pub(crate) fn may_stand(alloc: Global, front: &[u8], word: &[u8]) -> Result<bool, AllocError> {
     let mut text = Vec::new(alloc);
-    text.extend_from_slice(front)?;
-    text.push(b'\n')?;
-    text.extend_from_slice(word)?;
+    push_all(&mut text, &[front, b"\n", word])?;
     is_taken(alloc, &text, front.len().saturating_add(1))
 }
 

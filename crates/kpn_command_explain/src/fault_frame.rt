@@ -2,11 +2,12 @@
 //! fault has an expression, and the names in it have values. Rows show the words.
 
 use crate::fault_values::{missing, start_of, valued};
-use kpn_lang::{Expr, Op, eval, index_in};
+use kpn_lang::{Expr, Op, eval};
 use kpn_text_grammar::{
     Declaration, Description, Expression, Identifier, Literal, ProcessNode, StatementNode, Table,
 };
 use std::alloc::{AllocError, Global};
+use std::mem;
 
 // The most statements, some tenths of a second of work.
 const MOST_STATEMENTS: u32 = 1_000_000;
@@ -31,25 +32,12 @@ impl From<AllocError> for Stuck {
     }
 }
 
-// A variable and its value.
+// A name of a process and its values: that of a variable, none if it is not known; the cells of an array or a table; or
+// the items that the process got at an in port, of which it has read some once more.
 #[derive(Drop)]
-struct Variable<'t> {
+struct NamedValues<'t> {
     name: &'t [u8],
-    value: i64,
-}
-
-// An array or a table.
-#[derive(Drop)]
-struct CellRow<'t> {
-    name: &'t [u8],
-    cells: Vec<i64>,
-}
-
-// An in port, the items that the process got there, and how many of them it has read once more.
-#[derive(Drop)]
-struct InPort<'t> {
-    name: &'t [u8],
-    items: Vec<i64>,
+    values: Vec<i64>,
     read: usize,
 }
 
@@ -58,9 +46,7 @@ struct InPort<'t> {
 #[derive(Drop)]
 pub(crate) struct FaultFrame<'t> {
     alloc: Global,
-    variables: Vec<Variable<'t>>,
-    rows: Vec<CellRow<'t>>,
-    ports: Vec<InPort<'t>>,
+    rows: Vec<NamedValues<'t>>,
     left: u32,
     pub(crate) at: Option<usize>,
     pub(crate) said: Vec<u8>,
@@ -75,53 +61,51 @@ impl<'t> FaultFrame<'t> {
         pars: &[i64],
         items: Vec<Vec<i64>>,
     ) -> Result<FaultFrame<'t>, AllocError> {
+        let mut frame = FaultFrame::without_items(alloc, process, pars)?;
+        for (name, items) in process.parts.ins.iter().zip(items) {
+            frame.add(name.bytes, items)?;
+        }
+        for declaration in &process.declarations {
+            match declaration {
+                Declaration::Array(name, size) => {
+                    let size = usize::try_from(size.value()).unwrap_or(0);
+                    frame.add(name.bytes, vec![in alloc; 0; size]?)?;
+                }
+                Declaration::Table(table) => frame.add_table(table)?,
+            }
+        }
+        for table in &description.tables {
+            frame.add_table(table)?;
+        }
+        Ok(frame)
+    }
+
+    /// A process at its start, of which only the values of its parameters are known.
+    pub(crate) fn without_items(
+        alloc: Global,
+        process: &ProcessNode<'t>,
+        pars: &[i64],
+    ) -> Result<FaultFrame<'t>, AllocError> {
         let mut frame = FaultFrame {
             alloc,
-            variables: Vec::new(alloc),
             rows: Vec::new(alloc),
-            ports: Vec::new(alloc),
             left: MOST_STATEMENTS,
             at: None,
             said: Vec::new(alloc),
         };
         for (name, value) in process.parts.pars.iter().zip(pars) {
-            frame.variables.push(Variable {
-                name: name.bytes,
-                value: *value,
-            })?;
+            frame.add(name.bytes, vec![in alloc; *value; 1]?)?;
         }
-        for (name, items) in process.parts.ins.iter().zip(items) {
-            frame.ports.push(InPort {
-                name: name.bytes,
-                items,
-                read: 0,
-            })?;
-        }
-        frame.add_rows(description, process)?;
         Ok(frame)
     }
 
-    // Adds the arrays and the tables of a process, and then the shared tables, of which none has the same name.
-    fn add_rows(
-        &mut self,
-        description: &Description<'t>,
-        process: &ProcessNode<'t>,
-    ) -> Result<(), AllocError> {
-        for declaration in &process.declarations {
-            match declaration {
-                Declaration::Array(name, size) => {
-                    let size = usize::try_from(size.value()).unwrap_or(0);
-                    self.rows.push(CellRow {
-                        name: name.bytes,
-                        cells: vec![in self.alloc; 0; size]?,
-                    })?;
-                }
-                Declaration::Table(table) => self.add_table(table)?,
-            }
-        }
-        for table in &description.tables {
-            self.add_table(table)?;
-        }
+    fn add(&mut self, name: &'t [u8], values: Vec<i64>) -> Result<(), AllocError> {
+        let row = NamedValues {
+            name,
+            values,
+            read: 0,
+        };
+        self.rows.push(row)?;
         Ok(())
     }
 
@@ -133,11 +117,7 @@ impl<'t> FaultFrame<'t> {
                 Literal::Negated(number) => number.value().wrapping_neg(),
             })?;
         }
-        self.rows.push(CellRow {
-            name: table.name.bytes,
-            cells,
-        })?;
-        Ok(())
+        self.add(table.name.bytes, cells)
     }
 
     /// Makes the statements of a block, up to what stops the process.
@@ -155,17 +135,14 @@ impl<'t> FaultFrame<'t> {
         match statement {
             StatementNode::Assign(name, value) => {
                 let value = self.worth(value)?;
-                self.set(name.bytes, value)
+                self.set(name.bytes, Some(value))
             }
             StatementNode::Store(name, index, value) => self.store(name, index, value),
             StatementNode::Read(port, name) => {
                 let item = self.next_item(port.bytes)?;
-                self.set(name.bytes, item)
+                self.set(name.bytes, Some(item))
             }
-            StatementNode::Write(_, value) => {
-                self.worth(value)?;
-                Ok(())
-            }
+            StatementNode::Write(_, value) => self.worth(value).map(|_value| ()),
             StatementNode::If(test, first, second) => {
                 if self.worth(test)? != 0 {
                     self.make_block(first)
@@ -195,17 +172,39 @@ impl<'t> FaultFrame<'t> {
         Ok(())
     }
 
-    fn set(&mut self, name: &'t [u8], value: i64) -> Result<(), Stuck> {
-        for variable in self.variables.as_mut_slice() {
-            if variable.name == name {
-                variable.value = value;
+    /// Sets a variable, to nothing that is known if there is no value.
+    pub(crate) fn set(&mut self, name: &'t [u8], value: Option<i64>) -> Result<(), Stuck> {
+        let values = match value {
+            Some(value) => vec![in self.alloc; value; 1]?,
+            None => Vec::new(self.alloc),
+        };
+        for row in self.rows.as_mut_slice() {
+            if row.name == name {
+                drop(mem::replace(&mut row.values, values));
                 return Ok(());
             }
         }
-        match self.variables.push(Variable { name, value }) {
-            Ok(()) => Ok(()),
-            Err(_) => Err(Stuck::Lost),
+        Ok(self.add(name, values)?)
+    }
+
+    /// The first value of each name that has come, as far as it is known.
+    pub(crate) fn known_values(&self) -> Result<Vec<Option<i64>>, AllocError> {
+        let mut values = Vec::new(self.alloc);
+        for row in self.rows.as_slice() {
+            values.push(row.values.first().copied())?;
         }
+        Ok(values)
+    }
+
+    // Whether a name has a value at this place, which is set to another then.
+    fn put(&mut self, name: &[u8], place: usize, value: i64) -> bool {
+        for row in self.rows.as_mut_slice() {
+            if row.name == name && place < row.values.len() {
+                row.values[place] = value;
+                return true;
+            }
+        }
+        false
     }
 
     fn store(
@@ -221,59 +220,63 @@ impl<'t> FaultFrame<'t> {
             return Err(Stuck::Faulted);
         }
         let value = self.worth(value)?;
-        for row in self.rows.as_mut_slice() {
-            if row.name == name.bytes {
-                if let Ok(place) = index_in(row.cells.len(), number) {
-                    row.cells[place] = value;
-                }
-            }
-        }
+        self.put(name.bytes, usize::try_from(number).unwrap_or(0), value);
         Ok(())
     }
 
-    fn next_item(&mut self, name: &[u8]) -> Result<i64, Stuck> {
-        for port in self.ports.as_mut_slice() {
-            if port.name == name {
-                let item = port.items.get(port.read).copied().ok_or(Stuck::Lost)?;
-                port.read = port.read.saturating_add(1);
+    fn next_item(&mut self, port: &[u8]) -> Result<i64, Stuck> {
+        for row in self.rows.as_mut_slice() {
+            if row.name == port {
+                let item = row.values.get(row.read).copied().ok_or(Stuck::Lost)?;
+                row.read = row.read.saturating_add(1);
                 return Ok(item);
             }
         }
         Err(Stuck::Lost)
     }
 
-    // The value of an expression of a statement. Of its fault it keeps the words.
+    // The value of an expression of a statement. Of its fault it keeps where it is, and what is said of it.
     fn worth(&mut self, tree: &Expression<'t>) -> Result<i64, Stuck> {
         match self.value(tree) {
             Ok(value) => Ok(value),
-            Err(Stuck::Lost) => Err(Stuck::Lost),
-            Err(Stuck::Faulted) => {
-                self.tell(tree)?;
+            Err(None) => Err(Stuck::Lost),
+            Err(Some(culprit)) => {
+                self.said = valued(self.alloc, self, culprit)?;
+                self.at = start_of(culprit);
                 Err(Stuck::Faulted)
             }
         }
     }
 
-    /// The value of an expression.
-    pub(crate) fn value(&self, tree: &Expression<'_>) -> Result<i64, Stuck> {
+    /// The value of an expression, or else its innermost part with a fault, unless memory ran out. The value of a
+    /// variable that was not set is 0.
+    pub(crate) fn value<'e, 'a>(
+        &self,
+        tree: &'e Expression<'a>,
+    ) -> Result<i64, Option<&'e Expression<'a>>> {
         match tree {
             Expression::Number(number) => Ok(number.value()),
-            Expression::Name(name) => Ok(self.variable(name.bytes)),
+            Expression::Name(name) => match self.values(name.bytes) {
+                Some(values) => values.first().copied().ok_or(None),
+                None => Ok(0),
+            },
             Expression::Element(name, index) => {
                 let number = self.value(index)?;
-                self.cell(name.bytes, number).ok_or(Stuck::Faulted)
+                self.cell(name.bytes, number).ok_or(Some(tree))
             }
-            Expression::Negative(inner) => {
-                self.value(inner)?.checked_neg().ok_or(Stuck::Faulted)
-            }
+            Expression::Negative(inner) => self.value(inner)?.checked_neg().ok_or(Some(tree)),
             Expression::Not(inner) => Ok(i64::from(self.value(inner)? == 0)),
             Expression::BitNot(inner) => Ok(!self.value(inner)?),
             Expression::Binary(operator, left, right) => {
                 let left = self.value(left)?;
                 match operator {
-                    Op::And if left == 0 => Ok(0),
-                    Op::Or if left != 0 => Ok(1),
-                    _ => applied(self.alloc, *operator, left, self.value(right)?),
+                    Op::And if left == 0 => return Ok(0),
+                    Op::Or if left != 0 => return Ok(1),
+                    _ => {}
+                }
+                match applied(self.alloc, *operator, left, self.value(right)?) {
+                    Ok(value) => value.ok_or(Some(tree)),
+                    Err(_) => Err(None),
                 }
             }
             Expression::Choice(test, first, second) => {
@@ -286,89 +289,27 @@ impl<'t> FaultFrame<'t> {
         }
     }
 
-    // The value of a variable. One that was not set is 0.
-    fn variable(&self, name: &[u8]) -> i64 {
-        for variable in self.variables.as_slice() {
-            if variable.name == name {
-                return variable.value;
-            }
-        }
-        0
+    // The value of a name at a place, if it is there.
+    fn cell(&self, name: &[u8], number: i64) -> Option<i64> {
+        let place = usize::try_from(number).ok()?;
+        self.values(name)?.get(place).copied()
     }
 
-    // The value of a cell, if it is there.
-    fn cell(&self, name: &[u8], number: i64) -> Option<i64> {
+    /// The values of a name, if it has some.
+    pub(crate) fn values(&self, name: &[u8]) -> Option<&[i64]> {
         for row in self.rows.as_slice() {
             if row.name == name {
-                let place = usize::try_from(number).ok()?;
-                return row.cells.get(place).copied();
+                return Some(row.values.as_slice());
             }
         }
         None
     }
-
-    /// How many cells an array or a table has.
-    pub(crate) fn cells(&self, name: &[u8]) -> usize {
-        for row in self.rows.as_slice() {
-            if row.name == name {
-                return row.cells.len();
-            }
-        }
-        0
-    }
-
-    // Keeps where the fault of an expression is, and what is said of it.
-    fn tell(&mut self, tree: &Expression<'_>) -> Result<(), AllocError> {
-        let culprit = self.culprit(tree);
-        let said = valued(self.alloc, self, culprit)?;
-        self.at = start_of(culprit);
-        self.said = said;
-        Ok(())
-    }
-
-    // The innermost part of an expression that has its fault.
-    fn culprit<'e, 'a>(&self, tree: &'e Expression<'a>) -> &'e Expression<'a> {
-        match tree {
-            Expression::Number(_) | Expression::Name(_) => tree,
-            Expression::Element(_, inner)
-            | Expression::Negative(inner)
-            | Expression::Not(inner)
-            | Expression::BitNot(inner) => {
-                if self.value(inner).is_err() {
-                    self.culprit(inner)
-                } else {
-                    tree
-                }
-            }
-            Expression::Binary(_, left, right) => {
-                if self.value(left).is_err() {
-                    self.culprit(left)
-                } else if self.value(right).is_err() {
-                    self.culprit(right)
-                } else {
-                    tree
-                }
-            }
-            Expression::Choice(test, first, second) => match self.value(test) {
-                Ok(0) => self.culprit(second),
-                Ok(_) => self.culprit(first),
-                Err(_) => self.culprit(test),
-            },
-        }
-    }
 }
 
-// The value of an operator between two values.
+// The value of an operator between two values, if it has one.
 #[tactic(auto, unfolding(kpn_lang::specs::Syntax::names_below, kpn_lang::specs::Syntax::term_of))]
-fn applied(alloc: Global, operator: Op, left: i64, right: i64) -> Result<i64, Stuck> {
-    let Ok(left) = Box::new(alloc, Expr::Num(left)) else {
-        return Err(Stuck::Lost);
-    };
-    let Ok(right) = Box::new(alloc, Expr::Num(right)) else {
-        return Err(Stuck::Lost);
-    };
-    match eval(&Expr::Bin(operator, left, right), &[]) {
-        Ok(value) => Ok(value),
-        Err(_) => Err(Stuck::Faulted),
-    }
+fn applied(alloc: Global, operator: Op, left: i64, right: i64) -> Result<Option<i64>, AllocError> {
+    let left = Box::new(alloc, Expr::Num(left))?;
+    let right = Box::new(alloc, Expr::Num(right))?;
+    Ok(eval(&Expr::Bin(operator, left, right), &[]).ok())
 }

@@ -1,24 +1,21 @@
 //! An expression as it is written in language 2, where it begins, and the values of the names in it.
 
 use crate::fault_frame::FaultFrame;
+use crate::pieces::push_all;
 use itoa::Buffer;
+use kpn_command_base::{Pushed, push_number};
 use kpn_text_grammar::{Expression, Identifier, mark_of, name_of};
 use std::alloc::{AllocError, Global};
 
-/// Adds an expression. One with an operator that stands in another one has parentheses.
-pub(crate) fn push_expression(
-    out: &mut Vec<u8>,
-    tree: &Expression<'_>,
-    is_inner: bool,
-) -> Result<(), AllocError> {
+// Adds an expression. One with an operator that stands in another one has parentheses.
+fn push_expression(out: &mut Vec<u8>, tree: &Expression<'_>, is_inner: bool) -> Pushed {
     match tree {
         Expression::Number(number) => push_decimal(out, number.value()),
         Expression::Name(name) => out.extend_from_slice(name.bytes),
         Expression::Element(name, index) => {
-            out.extend_from_slice(name.bytes)?;
-            out.push(b'[')?;
+            push_all(out, &[name.bytes, b"["])?;
             push_expression(out, index, false)?;
-            push_if(out, true, b']')
+            out.extend_from_slice(b"]")
         }
         Expression::Negative(inner) => {
             out.push(b'-')?;
@@ -32,25 +29,20 @@ pub(crate) fn push_expression(
             out.push(b'~')?;
             push_expression(out, inner, true)
         }
-        Expression::Binary(operator, left, right) => match name_of(*operator) {
-            Some(called) => {
-                out.extend_from_slice(called)?;
-                out.push(b'(')?;
-                push_expression(out, left, false)?;
+        Expression::Binary(operator, left, right) => {
+            let called = name_of(*operator);
+            let (name, is_sided) = (called.unwrap_or(b""), called.is_none());
+            out.extend_from_slice(name)?;
+            push_if(out, is_inner || !is_sided, b"(")?;
+            push_expression(out, left, is_sided)?;
+            if is_sided {
+                push_all(out, &[b" ", mark_of(*operator).spelling(), b" "])?;
+            } else {
                 out.extend_from_slice(b", ")?;
-                push_expression(out, right, false)?;
-                push_if(out, true, b')')
             }
-            None => {
-                push_if(out, is_inner, b'(')?;
-                push_expression(out, left, true)?;
-                out.push(b' ')?;
-                out.extend_from_slice(mark_of(*operator).spelling())?;
-                out.push(b' ')?;
-                push_expression(out, right, true)?;
-                push_if(out, is_inner, b')')
-            }
-        },
+            push_expression(out, right, is_sided)?;
+            push_if(out, is_inner || !is_sided, b")")
+        }
         Expression::Choice(test, first, second) => {
             out.push(b'(')?;
             push_expression(out, test, true)?;
@@ -58,19 +50,20 @@ pub(crate) fn push_expression(
             push_expression(out, first, true)?;
             out.extend_from_slice(b" : ")?;
             push_expression(out, second, true)?;
-            push_if(out, true, b')')
+            out.extend_from_slice(b")")
         }
     }
 }
 
-fn push_if(out: &mut Vec<u8>, holds: bool, byte: u8) -> Result<(), AllocError> {
+fn push_if(out: &mut Vec<u8>, holds: bool, piece: &[u8]) -> Pushed {
     if holds {
-        out.push(byte)?;
+        out.extend_from_slice(piece)
+    } else {
+        Ok(())
     }
-    Ok(())
 }
 
-fn push_decimal(out: &mut Vec<u8>, number: i64) -> Result<(), AllocError> {
+fn push_decimal(out: &mut Vec<u8>, number: i64) -> Pushed {
     let mut buffer = Buffer::new();
     out.extend_from_slice(buffer.format(number).as_bytes())
 }
@@ -83,16 +76,11 @@ pub(crate) fn start_of(tree: &Expression<'_>) -> Option<usize> {
         Expression::Negative(inner) | Expression::Not(inner) | Expression::BitNot(inner) => {
             start_of(inner)
         }
-        Expression::Binary(_, left, right) => earlier(start_of(left), start_of(right)),
+        Expression::Binary(_, left, right) => start_of(left).or(start_of(right)),
         Expression::Choice(test, first, second) => {
-            earlier(start_of(test), earlier(start_of(first), start_of(second)))
+            start_of(test).or(start_of(first)).or(start_of(second))
         }
     }
-}
-
-// A start, or else a later one.
-fn earlier(start: Option<usize>, behind: Option<usize>) -> Option<usize> {
-    if start.is_some() { start } else { behind }
 }
 
 /// An expression between backticks, and the values of the names and the cells in it. Of a cell that is not there they
@@ -102,13 +90,13 @@ pub(crate) fn valued(
     frame: &FaultFrame<'_>,
     tree: &Expression<'_>,
 ) -> Result<Vec<u8>, AllocError> {
-    let mut notes = Vec::new(alloc);
-    add_notes(alloc, &mut notes, frame, tree)?;
+    let mut notes = Notes::new(alloc, frame);
+    notes.add(tree)?;
     let mut out = Vec::new(alloc);
     out.push(b'`')?;
     push_expression(&mut out, tree, false)?;
     out.push(b'`')?;
-    push_notes(&mut out, notes.as_slice())?;
+    notes.push_to(&mut out)?;
     Ok(out)
 }
 
@@ -119,106 +107,104 @@ pub(crate) fn missing(
     name: &Identifier<'_>,
     index: &Expression<'_>,
 ) -> Result<Vec<u8>, AllocError> {
-    let mut notes = Vec::new(alloc);
-    add_notes(alloc, &mut notes, frame, index)?;
-    add_missing(alloc, &mut notes, frame, name, index)?;
+    let mut notes = Notes::new(alloc, frame);
+    notes.add(index)?;
+    notes.add_missing(name, index)?;
     let mut out = Vec::new(alloc);
-    out.push(b'`')?;
-    out.extend_from_slice(name.bytes)?;
-    out.push(b'[')?;
+    push_all(&mut out, &[b"`", name.bytes, b"["])?;
     push_expression(&mut out, index, false)?;
     out.extend_from_slice(b"]`")?;
-    push_notes(&mut out, notes.as_slice())?;
+    notes.push_to(&mut out)?;
     Ok(out)
 }
 
-fn push_notes(out: &mut Vec<u8>, notes: &[Vec<u8>]) -> Result<(), AllocError> {
-    let mut before: &[u8] = b", where ";
-    for note in notes {
-        out.extend_from_slice(before)?;
-        out.extend_from_slice(note)?;
-        before = b", ";
-    }
-    Ok(())
+// What is said of the values in an expression.
+#[derive(Drop)]
+struct Notes<'f, 't> {
+    alloc: Global,
+    frame: &'f FaultFrame<'t>,
+    notes: Vec<Vec<u8>>,
 }
 
-fn add_notes(
-    alloc: Global,
-    notes: &mut Vec<Vec<u8>>,
-    frame: &FaultFrame<'_>,
-    tree: &Expression<'_>,
-) -> Result<(), AllocError> {
-    match tree {
-        Expression::Number(_) => Ok(()),
-        Expression::Name(_) => add_value(alloc, notes, frame, tree),
-        Expression::Element(name, index) => {
-            add_notes(alloc, notes, frame, index)?;
-            if frame.value(tree).is_ok() {
-                return add_value(alloc, notes, frame, tree);
+impl<'f, 't> Notes<'f, 't> {
+    fn new(alloc: Global, frame: &'f FaultFrame<'t>) -> Notes<'f, 't> {
+        let notes = Vec::new(alloc);
+        Notes {
+            alloc,
+            frame,
+            notes,
+        }
+    }
+
+    fn push_to(&self, out: &mut Vec<u8>) -> Pushed {
+        let mut before: &[u8] = b", where ";
+        for note in &self.notes {
+            push_all(out, &[before, note])?;
+            before = b", ";
+        }
+        Ok(())
+    }
+
+    fn add(&mut self, tree: &Expression<'_>) -> Pushed {
+        match tree {
+            Expression::Number(_) => Ok(()),
+            Expression::Name(_) => self.add_value(tree),
+            Expression::Element(name, index) => {
+                self.add(index)?;
+                if self.frame.value(tree).is_ok() {
+                    return self.add_value(tree);
+                }
+                self.add_missing(name, index)
             }
-            add_missing(alloc, notes, frame, name, index)
-        }
-        Expression::Negative(inner) | Expression::Not(inner) | Expression::BitNot(inner) => {
-            add_notes(alloc, notes, frame, inner)
-        }
-        Expression::Binary(_, left, right) => {
-            add_notes(alloc, notes, frame, left)?;
-            add_notes(alloc, notes, frame, right)
-        }
-        Expression::Choice(test, first, second) => {
-            add_notes(alloc, notes, frame, test)?;
-            add_notes(alloc, notes, frame, first)?;
-            add_notes(alloc, notes, frame, second)
+            Expression::Negative(inner) | Expression::Not(inner) | Expression::BitNot(inner) => {
+                self.add(inner)
+            }
+            Expression::Binary(_, left, right) => {
+                self.add(left)?;
+                self.add(right)
+            }
+            Expression::Choice(test, first, second) => {
+                self.add(test)?;
+                self.add(first)?;
+                self.add(second)
+            }
         }
     }
-}
 
-// Adds the value of an expression that is no number, if it has one.
-fn add_value(
-    alloc: Global,
-    notes: &mut Vec<Vec<u8>>,
-    frame: &FaultFrame<'_>,
-    tree: &Expression<'_>,
-) -> Result<(), AllocError> {
-    let Ok(value) = frame.value(tree) else {
-        return Ok(());
-    };
-    if matches!(tree, Expression::Number(_)) {
-        return Ok(());
+    // Adds the value of an expression that is no number, if it has one.
+    fn add_value(&mut self, tree: &Expression<'_>) -> Pushed {
+        let Ok(value) = self.frame.value(tree) else {
+            return Ok(());
+        };
+        if matches!(tree, Expression::Number(_)) {
+            return Ok(());
+        }
+        let mut note = Vec::new(self.alloc);
+        push_expression(&mut note, tree, false)?;
+        note.extend_from_slice(b" = ")?;
+        push_decimal(&mut note, value)?;
+        self.add_new(note)
     }
-    let mut note = Vec::new(alloc);
-    push_expression(&mut note, tree, false)?;
-    note.extend_from_slice(b" = ")?;
-    push_decimal(&mut note, value)?;
-    add_new(notes, note)
-}
 
-// Adds the number of a cell that is not there, and how many cells its array or table has.
-fn add_missing(
-    alloc: Global,
-    notes: &mut Vec<Vec<u8>>,
-    frame: &FaultFrame<'_>,
-    name: &Identifier<'_>,
-    index: &Expression<'_>,
-) -> Result<(), AllocError> {
-    add_value(alloc, notes, frame, index)?;
-    let mut size = Buffer::new();
-    let mut note = Vec::new(alloc);
-    note.extend_from_slice(name.bytes)?;
-    note.extend_from_slice(b" has ")?;
-    note.extend_from_slice(size.format(frame.cells(name.bytes)).as_bytes())?;
-    note.extend_from_slice(b" cells")?;
-    add_new(notes, note)
-}
-
-// Adds a note, if it is not there.
-fn add_new(notes: &mut Vec<Vec<u8>>, note: Vec<u8>) -> Result<(), AllocError> {
-    if notes
-        .iter()
-        .any(|earlier| earlier.as_slice() == note.as_slice())
-    {
-        return Ok(());
+    // Adds the number of a cell that is not there, and how many cells its array or table has.
+    fn add_missing(&mut self, name: &Identifier<'_>, index: &Expression<'_>) -> Pushed {
+        self.add_value(index)?;
+        let cells = self.frame.values(name.bytes).map_or(0, |cells| cells.len());
+        let mut note = Vec::new(self.alloc);
+        note.extend_from_slice(name.bytes)?;
+        push_number(&mut note, b" has ", cells, b" cells")?;
+        self.add_new(note)
     }
-    notes.push(note)?;
-    Ok(())
+
+    // Adds a note, if it is not there.
+    fn add_new(&mut self, note: Vec<u8>) -> Pushed {
+        if !self
+            .notes
+            .iter()
+            .any(|earlier| earlier.as_slice() == note.as_slice())
+        {
+            self.notes.push(note)?;
+        }
+        Ok(())
+    }
 }

@@ -4,10 +4,12 @@ ghost use Rattle.std.specs.Prelude.{◌<◌, length};
 
 use crate::excerpt::{push_excerpt, push_where};
 use crate::fault_frame::{FaultFrame, Stuck};
-use kpn_history::Event;
-use kpn_text::{Document, meant_tokens};
-use kpn_text_grammar::description;
-use kpn_text_tokens::language_of;
+use crate::pieces::push_all;
+use crate::spelled::{Spelled, tokens_of};
+use kpn_history::{Event, How};
+use kpn_text::Document;
+use kpn_text_grammar::Description;
+use kpn_trace::read_trace;
 use std::alloc::{AllocError, Global};
 
 /// The items that a process got, for each of its in ports.
@@ -63,33 +65,74 @@ pub fn fault_text(
     document: &Document,
     got: GottenItems,
 ) -> Result<Vec<u8>, AllocError> {
-    let mut out = Vec::new(alloc);
-    let p = got.process;
-    let network = document.network();
+    let Ok(meant) = tokens_of(alloc, text) else {
+        return Ok(Vec::new(alloc));
+    };
+    let tokens = meant.as_slice();
+    let spelled = Spelled {
+        alloc,
+        text,
+        tokens,
+    };
+    match spelled.tree() {
+        Ok(Some(tree)) => told_of(file, spelled, &tree, document, got),
+        _ => Ok(Vec::new(alloc)),
+    }
+}
+
+fn told_of(
+    file: &str,
+    spelled: Spelled<'_>,
+    tree: &Description<'_>,
+    document: &Document,
+    got: GottenItems,
+) -> Result<Vec<u8>, AllocError> {
+    let mut out = Vec::new(spelled.alloc);
+    let (network, p) = (document.network(), got.process);
     if network.instances() <= p {
         return Ok(out);
     }
-    let language = language_of(text);
-    let Ok(tokens) = meant_tokens(alloc, language, text) else {
-        return Ok(out);
-    };
-    let Ok(tree) = description(alloc, language, tokens.as_slice(), text.len()) else {
-        return Ok(out);
-    };
     let Some(process) = tree.processes.get(network.program_number(p)) else {
         return Ok(out);
     };
-    let mut frame = FaultFrame::start(alloc, &tree, process, network.pars(p), got.items)?;
-    if frame.make_block(&process.body) != Err(Stuck::Faulted) {
-        return Ok(out);
+    let mut frame = FaultFrame::start(spelled.alloc, tree, process, network.pars(p), got.items)?;
+    if frame.make_block(&process.body) == Err(Stuck::Faulted) {
+        let at = frame.at.unwrap_or(process.name.start);
+        push_where(&mut out, file.as_bytes(), spelled.text, at)?;
+        let name = document.instance_name(p).as_bytes();
+        push_all(&mut out, &[b"`", name, b"` ended at ", &frame.said, b"\n"])?;
+        push_excerpt(&mut out, spelled.text, at)?;
     }
-    let at = frame.at.unwrap_or(process.name.start);
-    push_where(&mut out, file.as_bytes(), text, at)?;
-    out.push(b'`')?;
-    out.extend_from_slice(document.instance_name(p).as_bytes())?;
-    out.extend_from_slice(b"` ended at ")?;
-    out.extend_from_slice(&frame.said)?;
-    out.push(b'\n')?;
-    push_excerpt(&mut out, text, at)?;
+    Ok(out)
+}
+
+/// The same of each fault in the bytes of a trace of this network, in the order of its events. It is empty if these are
+/// no trace.
+pub fn traced_faults_text(
+    alloc: Global,
+    file: &str,
+    text: &[u8],
+    document: &Document,
+    trace: &[u8],
+) -> Result<Vec<u8>, AllocError> {
+    let mut out = Vec::new(alloc);
+    let Ok(trace) = read_trace(alloc, trace) else {
+        return Ok(out);
+    };
+    let events = trace.events.as_slice();
+    for event in events {
+        let Event::Ended(p, how) = *event else {
+            continue;
+        };
+        if how == How::Done || document.network().instances() <= usize::from(p) {
+            continue;
+        }
+        let mut got = GottenItems::new(alloc, document, p.into())?;
+        for event in events {
+            got.add(*event)?;
+        }
+        let told = fault_text(alloc, file, text, document, got)?;
+        out.extend_from_slice(&told)?;
+    }
     Ok(out)
 }

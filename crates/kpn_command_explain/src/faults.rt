@@ -8,7 +8,7 @@ use crate::trace_names::process;
 use crate::trace_words::push_event;
 use kpn_audit::Audit;
 use kpn_command_base::Pushed;
-use kpn_history::{Event, How, Trace, Version};
+use kpn_history::{Event, How, Trace};
 use kpn_text::Document;
 use kpn_trace::how_word;
 use std::alloc::{AllocError, Global};
@@ -24,7 +24,7 @@ pub(crate) fn faults_text(
 {
     let mut text = String::new(alloc);
     if has_fault(audit.ends.as_slice()) {
-        push_faults(alloc, &mut text, document, trace)?;
+        push_faults(&mut text, document, trace)?;
     }
     Ok(text.into_bytes())
 }
@@ -45,47 +45,28 @@ fn is_fault(end: Option<How>) -> bool
 }
 
 // A line for each event by which a process ends by a fault, with the event of the process before it.
-fn push_faults(alloc: Global, text: &mut String, document: &Document, trace: &Trace) -> Pushed {
-    let mut last: Vec<Option<Event>> = Vec::new(alloc);
-    for _process in 0..document.network().instances() {
-        last.push(None)?;
-    }
-    for (k, event) in trace.events.as_slice().iter().enumerate() {
-        let Some(p) = event.process() else {
+fn push_faults(text: &mut String, document: &Document, trace: &Trace) -> Pushed {
+    let events = trace.events.as_slice();
+    for (k, event) in events.iter().enumerate() {
+        let Event::Ended(p, how) = *event else {
             continue;
         };
-        let before = last.get(p).copied().unwrap_or(None);
-        push_fault(text, document, trace.version, k, *event, before)?;
-        if p < last.len() {
-            last[p] = Some(*event);
+        if !is_fault(Some(how)) {
+            continue;
         }
+        let (name, word) = (process(document, p.into()), how_word(how));
+        write!(text, "fault: {name} ends with `{word}` at event {k}, ")?;
+        match events[..k]
+            .iter()
+            .rposition(|earlier| earlier.process() == event.process())
+        {
+            Some(before) => {
+                text.push_str("right after ")?;
+                push_event(text, document, trace.version, events[before])?;
+            }
+            None => text.push_str("before it reads or writes")?,
+        }
+        text.push_str("; its readers get what is unread, and nothing more\n")?;
     }
     Ok(())
-}
-
-// What follows event `k`, if a process ends by a fault there.
-fn push_fault(
-    text: &mut String,
-    document: &Document,
-    version: Version,
-    k: usize,
-    event: Event,
-    before: Option<Event>,
-) -> Pushed {
-    let Event::Ended(p, how) = event else {
-        return Ok(());
-    };
-    if !is_fault(Some(how)) {
-        return Ok(());
-    }
-    let (name, word) = (process(document, p.into()), how_word(how));
-    write!(text, "fault: {name} ends with `{word}` at event {k}, ")?;
-    match before {
-        Some(event) => {
-            text.push_str("right after ")?;
-            push_event(text, document, version, event)?;
-        }
-        None => text.push_str("before it reads or writes")?,
-    }
-    text.push_str("; its readers get what is unread, and nothing more\n")
 }

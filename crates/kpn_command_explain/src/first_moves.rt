@@ -1,18 +1,7 @@
-//! What the statements of a process do at its ports: which ports they name, what comes first, and how many items a turn
-//! of the last loop moves.
+//! What the statements of a process do at its ports: which ports they name, and which they read before they write.
 
 use kpn_text_grammar::{Expression, StatementNode};
-
-/// What statements do first at a port.
-#[derive(Clone, Copy)]
-pub(crate) enum FirstMove<'a> {
-    /// They name none, and come to their end.
-    Nothing,
-    /// They read this one.
-    Reads(&'a [u8]),
-    /// They write, or it depends on values.
-    Other,
-}
+use std::alloc::{AllocError, Global};
 
 /// Whether one of these statements reads or writes a port.
 pub(crate) fn names_port(statements: &[StatementNode<'_>], port: &[u8]) -> bool {
@@ -32,80 +21,71 @@ pub(crate) fn names_port(statements: &[StatementNode<'_>], port: &[u8]) -> bool 
     false
 }
 
-/// What these statements do first.
-pub(crate) fn first_move<'a>(statements: &[StatementNode<'a>]) -> FirstMove<'a> {
+/// Adds the ports that these statements read before they write, whatever the values are. It returns whether they may
+/// come to their end before they write.
+pub(crate) fn add_first_reads<'a>(
+    alloc: Global,
+    statements: &[StatementNode<'a>],
+    found: &mut Vec<&'a [u8]>,
+) -> Result<bool, AllocError> {
     for statement in statements {
-        let found = match statement {
-            StatementNode::Assign(_, _) | StatementNode::Store(_, _, _) => FirstMove::Nothing,
-            StatementNode::Read(port, _) => FirstMove::Reads(port.bytes),
-            StatementNode::Write(_, _) => FirstMove::Other,
-            StatementNode::If(_, first, second) => either(first_move(first), first_move(second)),
-            StatementNode::While(test, body) => in_loop(is_endless(test), first_move(body)),
+        let goes_on = match statement {
+            StatementNode::Assign(_, _) | StatementNode::Store(_, _, _) => true,
+            StatementNode::Read(port, _) => {
+                add_new(found, port.bytes)?;
+                true
+            }
+            StatementNode::Write(_, _) => false,
+            StatementNode::If(_, first, second) => {
+                let (mut one, mut other) = (Vec::new(alloc), Vec::new(alloc));
+                let first_goes_on = add_first_reads(alloc, first, &mut one)?;
+                let second_goes_on = add_first_reads(alloc, second, &mut other)?;
+                add_common(found, one.as_slice(), other.as_slice())?;
+                first_goes_on && second_goes_on
+            }
+            StatementNode::While(test, body) if is_endless(test) => {
+                add_first_reads(alloc, body, found)?;
+                false
+            }
+            // Nothing that it reads is sure, since it may have no turn.
+            StatementNode::While(_, body) => { add_first_reads(alloc, body, &mut Vec::new(alloc))? }
         };
-        match found {
-            FirstMove::Nothing => {}
-            other => return other,
+        if !goes_on {
+            return Ok(false);
         }
     }
-    FirstMove::Nothing
+    Ok(true)
 }
 
-// What one of two blocks does first.
-fn either<'a>(first: FirstMove<'a>, second: FirstMove<'a>) -> FirstMove<'a> {
-    match (first, second) {
-        (FirstMove::Nothing, FirstMove::Nothing) => FirstMove::Nothing,
-        (FirstMove::Reads(port), FirstMove::Reads(other)) if port == other => first,
-        _ => FirstMove::Other,
+fn add_new<'a>(found: &mut Vec<&'a [u8]>, port: &'a [u8]) -> Result<(), AllocError> {
+    if !has_port(found.as_slice(), port) {
+        found.push(port)?;
     }
+    Ok(())
 }
 
-// What a loop does first: one that may have no turn may do nothing.
-fn in_loop(is_endless: bool, body: FirstMove<'_>) -> FirstMove<'_> {
-    match body {
-        FirstMove::Nothing if !is_endless => FirstMove::Nothing,
-        FirstMove::Reads(port) if is_endless => FirstMove::Reads(port),
-        _ => FirstMove::Other,
+// Adds the ports that are in both lists.
+fn add_common<'a>(
+    found: &mut Vec<&'a [u8]>,
+    one: &[&'a [u8]],
+    other: &[&'a [u8]],
+) -> Result<(), AllocError> {
+    for port in one {
+        if has_port(other, port) {
+            add_new(found, port)?;
+        }
     }
+    Ok(())
 }
 
-fn is_endless(test: &Expression<'_>) -> bool {
+fn has_port(ports: &[&[u8]], port: &[u8]) -> bool {
+    ports.iter().any(|it| *it == port)
+}
+
+/// Whether a loop with this test has no end.
+pub(crate) fn is_endless(test: &Expression<'_>) -> bool {
     match test {
         Expression::Number(number) => number.value() != 0,
         _ => false,
     }
-}
-
-/// How many items a turn of the endless loop that ends these statements moves at a port, if that does not depend on
-/// values.
-pub(crate) fn moved_each_turn(statements: &[StatementNode<'_>], port: &[u8]) -> Option<u64> {
-    match statements.last() {
-        Some(StatementNode::While(test, body)) if is_endless(test) => moved(body, port),
-        _ => None,
-    }
-}
-
-// How many items these statements move at a port.
-fn moved(statements: &[StatementNode<'_>], port: &[u8]) -> Option<u64> {
-    let mut count = 0u64;
-    for statement in statements {
-        let more = match statement {
-            StatementNode::Assign(_, _) | StatementNode::Store(_, _, _) => 0,
-            StatementNode::Read(name, _) | StatementNode::Write(name, _) => {
-                u64::from(name.bytes == port)
-            }
-            StatementNode::If(_, first, second) => alike(
-                moved(first, port)?,
-                moved(second, port)?,
-            )?,
-            StatementNode::While(_, body) if names_port(body, port) => return None,
-            StatementNode::While(_, _) => 0,
-        };
-        count = count.checked_add(more)?;
-    }
-    Some(count)
-}
-
-// A number, if the other one is the same.
-fn alike(one: u64, other: u64) -> Option<u64> {
-    if one == other { Some(one) } else { None }
 }

@@ -6,10 +6,9 @@ ghost use Rattle.kpn_command_explain.specs.Answers.{AreItemsExplained, ExplainsL
 
 use crate::excerpt::{push_excerpt, push_where};
 use crate::explained::push_bracket;
-use crate::kinds::{kind_of, push_remedy};
+use crate::kinds::push_remedy;
 use crate::lines::{back, line_start};
 use crate::loading::load;
-use crate::words::is_fraction;
 use kpn_command_base::{Conclusion, Refusal, push_number};
 use kpn_shelf::Shelf;
 use kpn_text_items::{ItemFault, items_of};
@@ -95,15 +94,6 @@ fn rest_of(
     told.extend_from_slice(b"this line spells no item")?;
     push_bracket(alloc, &mut told, &Refusal::Input(ItemFault::BadItem(line)))?;
     push_excerpt(&mut told, bytes, at)?;
-    let here = back(bytes, at);
-    if is_fraction(here.strip_prefix(b"-").unwrap_or(here)) {
-        told.extend_from_slice(
-            b"Items are whole numbers: scale them first, as 2.5 to 25 tenths.\n",
-        )?;
-    } else if !push_remedy(&mut told, kind_of(bytes), source)? {
-        told.extend_from_slice(
-            b"Write one item on each line: an optional `-` and 1 to 19 digits, and nothing else.\n",
-        )?;
-    }
+    push_remedy(&mut told, bytes, back(bytes, at), source)?;
     Ok(told)
 }

@@ -1,48 +1,44 @@
-//! What a file is that spells no items, as far as its first bytes show, and what helps.
+//! What helps with a file that spells no items, by what its first bytes show of it.
 
 use crate::lines::front;
-use std::alloc::AllocError;
+use crate::pieces::push_all;
+use crate::words::{begins_any, is_fraction};
+use kpn_command_base::Pushed;
 use std::str;
-
-/// What the first bytes of a file show.
-#[derive(Clone, Copy)]
-pub(crate) enum FileKind {
-    /// The head of a WAV file.
-    Wav,
-    /// A byte order mark.
-    Marked,
-    /// Bytes that no text has.
-    Samples,
-    /// A letter.
-    Words,
-    /// Nothing else than items may have.
-    Lines,
-}
 
 // This many bytes are looked at.
 const LOOKED_AT: usize = 4_096;
 
-/// What the first bytes of a file show.
-pub(crate) fn kind_of(bytes: &[u8]) -> FileKind {
-    let first = front(bytes, LOOKED_AT);
-    if first.starts_with(b"RIFF") {
-        FileKind::Wav
-    } else if begins_marked(first) {
-        FileKind::Marked
-    } else if looks_like_samples(first) {
-        FileKind::Samples
-    } else if first.first().is_some_and(|byte| byte.is_ascii_alphabetic()) {
-        FileKind::Words
-    } else {
-        FileKind::Lines
-    }
-}
+const WAV: &[u8] = b"This is a WAV file, which `kpn stream` reads by `--format ";
 
-// Whether a text begins with the byte order mark of UTF-8 or of UTF-16.
-fn begins_marked(bytes: &[u8]) -> bool {
-    bytes.starts_with(b"\xef\xbb\xbf")
-        || bytes.starts_with(b"\xff\xfe")
-        || bytes.starts_with(b"\xfe\xff")
+const STORED_WITH_MARK: &[u8] =
+    b"It begins with a byte order mark, which is no part of an item: store it without one.\n";
+
+const SAMPLES: &[u8] =
+    b"These bytes look like samples, which `kpn stream` reads: of 16 bits by `--format ";
+
+const NO_ITEMS: &[u8] =
+    b"This is text, and no list of items: a line has one whole number, and nothing else.\n";
+
+const ITEM_LINES: &[u8] =
+    b"Write one item on each line: an optional `-` and 1 to 19 digits, and nothing else.\n";
+
+/// Adds what helps if a file of these bytes, for the source of this name, has such a line that spells no item.
+pub(crate) fn push_remedy(told: &mut Vec<u8>, bytes: &[u8], line: &[u8], source: &str) -> Pushed {
+    let first = front(bytes, LOOKED_AT);
+    if is_fraction(line.strip_prefix(b"-").unwrap_or(line)) {
+        told.extend_from_slice(b"Items are whole numbers: scale them first, as 2.5 to 25 tenths.\n")
+    } else if first.starts_with(b"RIFF") {
+        push_all(told, &[WAV, source.as_bytes(), b"=wav`.\n"])
+    } else if begins_any(first, &[b"\xef\xbb\xbf", b"\xff\xfe", b"\xfe\xff"]) {
+        told.extend_from_slice(STORED_WITH_MARK)
+    } else if looks_like_samples(first) {
+        push_all(told, &[SAMPLES, source.as_bytes(), b"=s16le`.\n"])
+    } else if first.first().is_some_and(|byte| byte.is_ascii_alphabetic()) {
+        told.extend_from_slice(NO_ITEMS)
+    } else {
+        told.extend_from_slice(ITEM_LINES)
+    }
 }
 
 // Whether one of these bytes is in no text, or many are in few texts.
@@ -62,41 +58,4 @@ fn is_text(bytes: &[u8]) -> bool {
         Ok(_) => true,
         Err(error) => bytes.len() == LOOKED_AT && error.valid_up_to() > LOOKED_AT - 4,
     }
-}
-
-/// Adds what helps with a file of this kind for the source of this name. It returns whether it did.
-pub(crate) fn push_remedy(
-    told: &mut Vec<u8>,
-    kind: FileKind,
-    source: &str,
-) -> Result<bool, AllocError> {
-    match kind {
-        FileKind::Wav => {
-            told.extend_from_slice(b"This is a WAV file, which `kpn stream` reads by ")?;
-            push_format(told, source, "wav")?;
-        }
-        FileKind::Marked => told.extend_from_slice(
-            b"It begins with a byte order mark, which is no part of an item: store it without one.\n",
-        )?,
-        FileKind::Samples => {
-            told.extend_from_slice(
-                b"These bytes look like samples, which `kpn stream` reads: of 16 bits by ",
-            )?;
-            push_format(told, source, "s16le")?;
-        }
-        FileKind::Words => told.extend_from_slice(
-            b"This is text, and no list of items: a line has one whole number, and nothing else.\n",
-        )?,
-        FileKind::Lines => return Ok(false),
-    }
-    Ok(true)
-}
-
-// The option that says the format of a source.
-fn push_format(told: &mut Vec<u8>, source: &str, format: &str) -> Result<(), AllocError> {
-    told.extend_from_slice(b"`--format ")?;
-    told.extend_from_slice(source.as_bytes())?;
-    told.extend_from_slice(b"=")?;
-    told.extend_from_slice(format.as_bytes())?;
-    told.extend_from_slice(b"`.\n")
 }

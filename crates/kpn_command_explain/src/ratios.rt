@@ -1,72 +1,82 @@
 //! How often processes have to go round for each other so that their channels balance.
 
+use kpn_text_grammar::Identifier;
 use std::alloc::{AllocError, Global};
 
 /// A channel: the numbers of its writer and its reader, and the items that each moves there in a turn, at least 1.
 #[derive(Clone, Copy)]
-pub(crate) struct RatedChannel {
+pub(crate) struct RatedChannel<'d, 'a> {
+    pub name: &'d Identifier<'a>,
     pub writer: usize,
     pub reader: usize,
     pub put: u64,
     pub got: u64,
 }
 
-// How many turns of a process there are, as a fraction.
+/// A fraction.
 #[derive(Clone, Copy, PartialEq)]
-struct Ratio {
-    over: u64,
-    under: u64,
+pub(crate) struct Ratio {
+    pub over: u64,
+    pub under: u64,
 }
 
-/// The first of these channels that the others contradict, if one does. Nothing is said where numbers become too large.
-pub(crate) fn first_unbalanced(
+/// The first of these channels that the others contradict, if one does, and by them the items that are put there for
+/// those that are got. Nothing is said where numbers become too large.
+pub(crate) fn first_unbalanced<'d, 'a>(
     alloc: Global,
-    links: &[RatedChannel],
+    links: &[RatedChannel<'d, 'a>],
     processes: usize,
-) -> Result<Option<usize>, AllocError> {
+) -> Result<Option<(RatedChannel<'d, 'a>, Ratio)>, AllocError> {
     let mut turns: Vec<Option<Ratio>> = vec![in alloc; None; processes]?;
     for p in 0..processes {
         if turns[p].is_none() {
             turns[p] = Some(Ratio { over: 1, under: 1 });
             for _round in 0..processes {
-                spread(links, &mut turns);
+                if !spread(links, &mut turns) {
+                    break;
+                }
             }
         }
     }
-    Ok(links.iter().position(|link| is_contradicted(*link, &turns)))
-}
-
-// What is known of one end of a channel, for the other.
-fn spread(links: &[RatedChannel], turns: &mut [Option<Ratio>]) {
     for link in links {
-        let (writer, reader) = (known(turns, link.writer), known(turns, link.reader));
-        match (writer, reader) {
-            (Some(writer), None) => learn(turns, link.reader, scaled(writer, link.put, link.got)),
-            (None, Some(reader)) => learn(turns, link.writer, scaled(reader, link.got, link.put)),
-            _ => {}
+        if let Some(ratio) = contradiction(*link, &turns) {
+            return Ok(Some((*link, ratio)));
         }
     }
+    Ok(None)
+}
+
+// What is known of one end of a channel, for the other. It returns whether that is new of one.
+fn spread(links: &[RatedChannel<'_, '_>], turns: &mut [Option<Ratio>]) -> bool {
+    let mut is_new = false;
+    for link in links {
+        let (writer, reader) = (known(turns, link.writer), known(turns, link.reader));
+        let (p, found) = match (writer, reader) {
+            (Some(writer), None) => (link.reader, scaled(writer, link.put, link.got)),
+            (None, Some(reader)) => (link.writer, scaled(reader, link.got, link.put)),
+            _ => continue,
+        };
+        if found.is_some() && p < turns.len() {
+            turns[p] = found;
+            is_new = true;
+        }
+    }
+    is_new
 }
 
 fn known(turns: &[Option<Ratio>], p: usize) -> Option<Ratio> {
     turns.get(p).copied().unwrap_or(None)
 }
 
-fn learn(turns: &mut [Option<Ratio>], p: usize, found: Option<Ratio>) {
-    if p < turns.len() {
-        turns[p] = found;
+// The items that are put on a channel for those that are got, if both ends are known and these are not as many.
+fn contradiction(link: RatedChannel<'_, '_>, turns: &[Option<Ratio>]) -> Option<Ratio> {
+    let (writer, reader) = (known(turns, link.writer)?, known(turns, link.reader)?);
+    let put = scaled(writer, link.put, link.got)?;
+    let ratio = scaled(put, reader.under, reader.over)?;
+    if ratio.over == ratio.under {
+        return None;
     }
-}
-
-// Whether both ends of a channel are known, and do not fit.
-fn is_contradicted(link: RatedChannel, turns: &[Option<Ratio>]) -> bool {
-    match (known(turns, link.writer), known(turns, link.reader)) {
-        (Some(writer), Some(reader)) => match scaled(writer, link.put, link.got) {
-            Some(wanted) => wanted != reader,
-            None => false,
-        },
-        _ => false,
-    }
+    Some(ratio)
 }
 
 // This many turns times a fraction, in lowest terms.

@@ -1,130 +1,58 @@
 //! The kinds of faults of a description, as they are explained, and the sentences for each.
 
-/// What a limit counts.
-#[derive(Clone, Copy)]
-pub(crate) enum LimitedPart {
-    Variables,
-    InPorts,
-    OutPorts,
-    /// The cells of arrays and tables.
-    Cells,
-    /// Statements, and the numbers, names and operators of expressions.
-    Nodes,
-    Processes,
-    Instances,
-    Channels,
-}
+use crate::excess::{CELLS, Excess};
 
-/// A limit that is passed, and how many there are of what it counts.
-#[derive(Clone, Copy)]
-pub(crate) struct Excess {
-    pub part: LimitedPart,
-    pub count: usize,
-    pub limit: usize,
-}
-
-/// A kind of fault.
+/// A kind of fault. Its sentence says which.
 #[derive(Clone, Copy)]
 pub(crate) enum Case {
-    /// The text has too many bytes.
     LongText,
-    /// A name has too many bytes.
     LongName,
-    /// A number is out of range.
     BadNumber,
-    /// What begins like a number of language 2 is none, or out of range.
+    /// What begins like a number of language 2 is none.
     BadNumeral,
-    /// No token begins at a byte.
     NoToken,
-    /// A word of the language stands where a name is meant.
     Reserved,
-    /// A constant stands where a name is meant.
     Constant,
-    /// Another name stands where a number or a constant is meant.
     NoConstant,
-    /// A constant has no value.
     ConstantValue,
-    /// Another token may not stand there.
     Misplaced,
-    /// The text ends too early.
     EarlyEnd,
-    /// A variable is not known.
     UnknownVariable,
-    /// A variable gets its first value further down.
     LateVariable,
-    /// A port stands in place of a variable.
     PortAsVariable,
-    /// What has an index is no array and no table.
     NoArray,
-    /// An array has no index.
+    /// An array or a table has no index.
     WholeArray,
-    /// A table has no index.
     WholeTable,
-    /// An array is set without an index.
     SetArray,
     /// An array stands in place of the variable of a `read`.
     ReadArray,
-    /// A table is set.
     SetTable,
-    /// An in port is not known.
     UnknownInPort,
-    /// An out port is not known.
     UnknownOutPort,
-    /// A process is not known.
     UnknownProcess,
-    /// A channel is not known.
     UnknownChannel,
-    /// A process has the name of another.
-    DoubleProcess,
-    /// A port or a parameter has the name of another.
-    DoublePort,
-    /// A name is that of an earlier array or table.
-    DoubleRow,
-    /// A port is used as a variable.
+    /// A name is that of an earlier part, as the sentence says.
+    Double(&'static [u8]),
+    /// A port gets a value.
     AssignedPort,
-    /// An instance has the name of another.
-    DoubleInstance,
-    /// A channel has the name of another.
-    DoubleChannel,
-    /// A process is too large.
     LargeProgram(Excess),
-    /// A process nests too deep.
     DeepProgram,
-    /// A process breaks another rule.
     BrokenProgram,
-    /// The network has too many parts.
     LargeNetwork(Excess),
-    /// An instance does not fit its process.
     PortCount,
-    /// A channel has no writer.
     NoWriter,
-    /// A channel has two writers.
     TwoWriters,
-    /// A channel has no reader.
     NoReader,
-    /// A channel has two readers.
     TwoReaders,
-    /// The capacity of a channel is out of range.
     BadCapacity,
-    /// The limit is out of range.
     BadLimit,
-    /// The network breaks another rule.
     BrokenNetwork,
-    /// Memory ran out.
     NoMemory,
 }
 
-/// Whether the sentence begins with the name at the place.
-pub(crate) fn is_named(case: Case) -> bool {
-    match case {
-        Case::LongText | Case::LongName | Case::BadNumber | Case::BadNumeral => false,
-        Case::ConstantValue | Case::NoToken | Case::Misplaced | Case::EarlyEnd => false,
-        Case::LargeNetwork(_) | Case::BadLimit | Case::NoMemory => false,
-        _ => true,
-    }
-}
-
-/// What is wrong. If the sentence begins with a name, this is what follows it. A limit that is passed follows this.
+/// What is wrong. A sentence that begins with a space follows the name at the place, and a limit that is passed follows
+/// its sentence.
 pub(crate) fn said(case: Case) -> &'static [u8] {
     match case {
         Case::LongText => b"the text has more than 1048576 bytes",
@@ -141,7 +69,7 @@ pub(crate) fn said(case: Case) -> &'static [u8] {
         Case::EarlyEnd => b"the text ends too early",
         Case::UnknownVariable => b" is used before anything is assigned to it",
         Case::LateVariable => b" is used here, and first gets a value further down",
-        Case::PortAsVariable => b" is a port of this process, and no variable",
+        Case::PortAsVariable | Case::AssignedPort => b" is a port of this process, and no variable",
         Case::NoArray => b" is no array and no table of this process",
         Case::WholeArray | Case::SetArray | Case::ReadArray => b" is an array, and no variable",
         Case::WholeTable => b" is a table, and no variable",
@@ -150,16 +78,11 @@ pub(crate) fn said(case: Case) -> &'static [u8] {
         Case::UnknownOutPort => b" is no out port of this process",
         Case::UnknownProcess => b" is no process of this text",
         Case::UnknownChannel => b" is no channel of this network",
-        Case::DoubleProcess => b" is the name of an earlier process too",
-        Case::DoublePort => b" is the name of an earlier port or parameter of this process too",
-        Case::DoubleRow => b" is the name of an earlier array or table too",
-        Case::AssignedPort => b" is a port of this process, and no variable",
-        Case::DoubleInstance => b" is the name of an earlier instance too",
-        Case::DoubleChannel => b" is the name of an earlier channel too",
-        Case::LargeProgram(_) => b"",
+        Case::Double(said) => said,
+        Case::LargeProgram(_) => b" has ",
         Case::DeepProgram => b" nests blocks or expressions deeper than 32 levels",
         Case::BrokenProgram => b" is no program",
-        Case::LargeNetwork(_) => b"the text",
+        Case::LargeNetwork(_) => b"the text has ",
         Case::PortCount =>
             b" has not as many channels and values as its process has ports and parameters",
         Case::NoWriter => b" has no writer",
@@ -211,13 +134,9 @@ pub(crate) fn advice(case: Case) -> &'static [u8] {
         Case::UnknownProcess => b"Write the process before the network, or correct the name.",
         Case::UnknownChannel =>
             b"Declare it by `channel`, `source` or `sink`, or correct the name.",
-        Case::DoubleProcess => b"Give one of the two another name.",
-        Case::DoublePort => b"Give one of the two another name.",
-        Case::DoubleRow => b"Give one of the two another name.",
+        Case::Double(_) => b"Give one of the two another name.",
         Case::AssignedPort => b"Choose another name for the variable.",
-        Case::DoubleInstance => b"Give one of the two another name.",
-        Case::DoubleChannel => b"Give one of the two another name.",
-        Case::LargeProgram(excess) if matches!(excess.part, LimitedPart::Cells) =>
+        Case::LargeProgram(excess) if excess.part == CELLS =>
             b"At most 65536 cells: those of its arrays and tables, and of each shared table that it names.",
         Case::LargeProgram(_) =>
             b"At most 16 in ports, 16 out ports, 64 variables, 4096 statements and operands.",

@@ -1,7 +1,8 @@
 //! The lines of a description on which its network begins, and on which a setting stands.
 
 use crate::lines::place_at;
-use kpn_text_tokens::{Keyword, LexFault, Token, language_of, lexemes};
+use crate::spelled::written_tokens;
+use kpn_text_tokens::{Keyword, Token};
 use std::alloc::{AllocError, Global};
 
 /// On which lines of a description the words `network`, `limit` and `policy` stand, if they do.
@@ -19,10 +20,8 @@ pub fn setting_lines(alloc: Global, text: &[u8]) -> Result<SettingLines, AllocEr
         limit: None,
         policy: None,
     };
-    let tokens = match lexemes(alloc, language_of(text), text) {
-        Ok(tokens) => tokens,
-        Err(LexFault::NoMemory) => return Err(AllocError),
-        Err(_) => return Ok(found),
+    let Some(tokens) = written_tokens(alloc, text)? else {
+        return Ok(found);
     };
     for lexeme in tokens.as_slice() {
         let line = match &lexeme.token {

@@ -3,6 +3,7 @@ ghost use Rattle.std.specs.Prelude.{◌≡◌, IfOk};
 ghost use Rattle.kpn_command_explain.specs.Spots as spec;
 
 use crate::names::name_at;
+use crate::spelled::Spelled;
 use kpn_text_tokens::{Keyword, Lexeme, Mark, Token};
 use std::alloc::{AllocError, Global};
 
@@ -209,51 +210,45 @@ pub fn start_before(tokens: &[Lexeme<'_>], at: usize) -> usize {
     found
 }
 
-/// Whether the head of the process in which this byte stands has the name there, as a port or a parameter. If the name
-/// is no variable, it is a port.
-pub fn is_port(text: &[u8], tokens: &[Lexeme<'_>], at: usize) -> bool {
-    let name = name_at(text, at);
-    let mut now = TokenSpot::Outside;
-    let mut found = false;
-    for lexeme in tokens {
-        if lexeme.start == at {
-            return found;
-        }
-        // A process has ports of its own.
-        found = match now {
-            TokenSpot::Process => false,
-            TokenSpot::Port => found || name_at(text, lexeme.start) == name,
-            _ => found,
-        };
-        now = behind(now, &lexeme.token);
-    }
-    false
+/// How a name is declared: where as an array or a table, and whether as a port or a parameter.
+#[derive(Clone, Copy)]
+pub(crate) struct Declared {
+    pub row: Option<usize>,
+    pub is_port: bool,
 }
 
-/// Where the name at this byte is declared before it as an array or a table that the process of the byte knows.
-pub fn row_of(text: &[u8], tokens: &[Lexeme<'_>], at: usize) -> Option<usize> {
-    let name = name_at(text, at);
+/// How the name at this byte is declared before it, as far as the process of the byte knows.
+pub(crate) fn declared_at(spelled: Spelled<'_>, at: usize) -> Declared {
+    let name = name_at(spelled.text, at);
     let mut now = TokenSpot::Outside;
     let mut shared = None;
-    let mut found = None;
-    for lexeme in tokens {
+    let mut row = None;
+    let mut is_port = false;
+    for lexeme in spelled.tokens {
         if lexeme.start == at {
-            return found;
+            return Declared { row, is_port };
         }
-        let is_it = name_at(text, lexeme.start) == name;
+        let is_it = name_at(spelled.text, lexeme.start) == name;
         match now {
-            // A process has arrays and tables of its own.
-            TokenSpot::Process => found = shared,
-            TokenSpot::Row if is_it => found = Some(lexeme.start),
+            // A process has ports, arrays and tables of its own.
+            TokenSpot::Process => {
+                row = shared;
+                is_port = false;
+            }
+            TokenSpot::Port => is_port = is_port || is_it,
+            TokenSpot::Row if is_it => row = Some(lexeme.start),
             TokenSpot::Shared if is_it => {
                 shared = Some(lexeme.start);
-                found = shared;
+                row = shared;
             }
             _ => {}
         }
         now = behind(now, &lexeme.token);
     }
-    None
+    Declared {
+        row: None,
+        is_port: false,
+    }
 }
 
 /// Whether `[` stands after the token that begins at this byte.

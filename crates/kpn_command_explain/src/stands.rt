@@ -2,22 +2,22 @@
 
 use crate::choices::may_stand;
 use crate::lines::{back, front};
+use crate::spelled::Spelled;
 use crate::spots::{TokenSpot, spot_at, start_before};
-use kpn_text_tokens::Lexeme;
-use std::alloc::{AllocError, Global};
+use std::alloc::AllocError;
 
 /// Where in a statement a place is, by what may stand there.
 #[derive(Clone, Copy)]
 pub(crate) enum Stand {
-    /// After the name of a variable that begins a statement: `=` may stand there.
+    /// After the name of a variable that begins a statement.
     Assigning,
-    /// Between parentheses, after the first side of an operator: an operator may.
+    /// Between parentheses, after the first side of an operator.
     FirstSide,
-    /// Where an operand is to begin: a number may.
+    /// Where an operand is to begin.
     Operand,
-    /// After the first block of an `if`: `else` may.
+    /// After the first block of an `if`.
     BeforeElse,
-    /// Where a statement is to begin: `}` may too.
+    /// Where a statement is to begin.
     Statement,
     /// After a whole expression.
     Whole,
@@ -31,55 +31,46 @@ pub(crate) enum Stand {
     Elsewhere,
 }
 
+// Where in a block a place is at which such a word may stand, by the first of them.
+const STANDS: [(&[u8], Stand); 5] = [
+    (b"=", Stand::Assigning),
+    (b"+", Stand::FirstSide),
+    (b"0", Stand::Operand),
+    (b"else", Stand::BeforeElse),
+    (b"}", Stand::Statement),
+];
+
 /// Where in a statement the token of a place stands.
-pub(crate) fn stand_of(
-    alloc: Global,
-    text: &[u8],
-    tokens: &[Lexeme<'_>],
-    at: usize,
-) -> Result<Stand, AllocError> {
-    let before = start_before(tokens, at);
-    let front = front(text, at);
-    match spot_at(tokens, at) {
-        TokenSpot::Target | TokenSpot::Variable => stand_in_block(alloc, text, before, front),
+pub(crate) fn stand_of(spelled: Spelled<'_>, at: usize) -> Result<Stand, AllocError> {
+    let (alloc, front) = (spelled.alloc, front(spelled.text, at));
+    match spot_at(spelled.tokens, at) {
+        TokenSpot::Target | TokenSpot::Variable => stand_in_block(spelled, at),
         TokenSpot::Row | TokenSpot::Shared => Ok(Stand::Declaring),
-        _ if lacks_capacity(alloc, front)? => Ok(Stand::BeforeCapacity),
+        // As the `cap` of the network a channel may follow.
+        _ if may_stand(alloc, front, b"cap")? && !may_stand(alloc, front, b"channel")? => {
+            Ok(Stand::BeforeCapacity)
+        }
         _ => Ok(Stand::Elsewhere),
     }
 }
 
-// `cap` may stand there, and not as that of the network, which a channel may follow.
-fn lacks_capacity(alloc: Global, front: &[u8]) -> Result<bool, AllocError> {
-    Ok(may_stand(alloc, front, b"cap")? && !may_stand(alloc, front, b"channel")?)
-}
-
-// The place after a text that ends in a block, and whose last token begins at `before`.
-fn stand_in_block(
-    alloc: Global,
-    text: &[u8],
-    before: usize,
-    front: &[u8],
-) -> Result<Stand, AllocError> {
-    if may_stand(alloc, front, b"=")? {
-        Ok(Stand::Assigning)
-    } else if may_stand(alloc, front, b"+")? {
-        Ok(Stand::FirstSide)
-    } else if may_stand(alloc, front, b"0")? {
-        Ok(Stand::Operand)
-    } else if may_stand(alloc, front, b"else")? {
-        Ok(Stand::BeforeElse)
-    } else if may_stand(alloc, front, b"}")? {
-        Ok(Stand::Statement)
-    } else if ends_operand(alloc, text, before)? {
+// The place in a text that ends in a block before it.
+fn stand_in_block(spelled: Spelled<'_>, at: usize) -> Result<Stand, AllocError> {
+    let (alloc, before) = (spelled.alloc, front(spelled.text, at));
+    for (word, stand) in &STANDS {
+        if may_stand(alloc, before, *word)? {
+            return Ok(*stand);
+        }
+    }
+    // A parenthesis ends the last token, or a number might stand in place of that token.
+    let last = start_before(spelled.tokens, at);
+    if back(spelled.text, last).starts_with(b")")
+        || may_stand(alloc, front(spelled.text, last), b"0")?
+    {
         Ok(Stand::Whole)
-    } else if may_stand(alloc, front, b";")? {
+    } else if may_stand(alloc, before, b";")? {
         Ok(Stand::BehindRead)
     } else {
         Ok(Stand::Elsewhere)
     }
-}
-
-// A parenthesis ends the token before, or a number might stand in place of that token.
-fn ends_operand(alloc: Global, text: &[u8], before: usize) -> Result<bool, AllocError> {
-    Ok(back(text, before).starts_with(b")") || may_stand(alloc, front(text, before), b"0")?)
 }

@@ -4,50 +4,48 @@ use kpn_text::Document;
 use std::fmt;
 use std::fmt::{Display, Formatter};
 
-/// A process: by its name, or by its number if the network has no such process.
+/// A process or a channel: by its name, or by its number if the network has none of this number.
 #[derive(Clone, Copy)]
-pub(crate) struct ProcessName<'d> {
-    document: &'d Document,
+pub(crate) struct PartName<'d> {
+    kind: &'static str,
     number: usize,
+    name: Option<&'d str>,
 }
 
 /// The process of this number.
-pub(crate) fn process(document: &Document, number: usize) -> ProcessName<'_> {
-    ProcessName { document, number }
-}
-
-impl Display for ProcessName<'_> {
-    fn fmt<W: fmt::Write>(&self, f: &mut Formatter<W>) -> fmt::Result {
-        let number = self.number;
-        if number < self.document.network().instances() {
-            let name = self.document.instance_name(number);
-            write!(f, "`{name}`")
-        } else {
-            write!(f, "process {number}")
-        }
+pub(crate) fn process(document: &Document, number: usize) -> PartName<'_> {
+    let name = if number < document.network().instances() {
+        Some(document.instance_name(number))
+    } else {
+        None
+    };
+    PartName {
+        kind: "process",
+        number,
+        name,
     }
 }
 
-/// A channel: by its name, or by its number if the network has no such channel.
-#[derive(Clone, Copy)]
-pub(crate) struct ChannelName<'d> {
-    document: &'d Document,
-    number: usize,
-}
-
 /// The channel of this number.
-pub(crate) fn channel(document: &Document, number: usize) -> ChannelName<'_> {
-    ChannelName { document, number }
+pub(crate) fn channel(document: &Document, number: usize) -> PartName<'_> {
+    let name = if number < document.network().channels() {
+        Some(document.channel_name(number))
+    } else {
+        None
+    };
+    PartName {
+        kind: "channel",
+        number,
+        name,
+    }
 }
 
-impl Display for ChannelName<'_> {
+impl Display for PartName<'_> {
     fn fmt<W: fmt::Write>(&self, f: &mut Formatter<W>) -> fmt::Result {
-        let number = self.number;
-        if number < self.document.network().channels() {
-            let name = self.document.channel_name(number);
-            write!(f, "`{name}`")
-        } else {
-            write!(f, "channel {number}")
+        let (kind, number) = (self.kind, self.number);
+        match self.name {
+            Some(name) => write!(f, "`{name}`"),
+            None => write!(f, "{kind} {number}"),
         }
     }
 }

@@ -8,6 +8,7 @@ use crate::cut::cut_text;
 use crate::deadlock::deadlock_text;
 use crate::excerpt::{push_excerpt, push_where};
 use crate::faults::faults_text;
+use crate::legal_history::LegalHistory;
 use crate::lines::line_start;
 use crate::not_exact::push_not_exact;
 use crate::trace_words::{push_event, push_scene};
@@ -50,7 +51,7 @@ fn not_exact_text(alloc: Global, document: &Document, audit: &Audit) -> Result<S
 {
     let mut text = String::new(alloc);
     if !audit.exact {
-        push_not_exact(&mut text, document, audit)?;
+        push_not_exact(&mut text, LegalHistory { document, audit })?;
     }
     Ok(text)
 }
@@ -78,27 +79,22 @@ fn rest_of_refused(
     fault: &TraceFault,
     at: usize,
 ) -> Result<Vec<u8>, AllocError> {
-    let (said, advice) = match fault {
-        TraceFault::BadEvent(line) => (
-            format!(in alloc; "the line spells no event [30 BadEvent at {line}]\n")?,
-            "Write an event as `put 0 1 7`: words with one space between them, and a line feed.\n",
-        ),
-        TraceFault::BadHead => (
-            String::from_str(
-                alloc,
-                "the file does not begin as a trace does [31 BadHead]\n",
-            )?,
-            "Begin with `kpn-trace 1`, or with `kpn-trace 2` and a line `policy cycles grow one`.\n",
-        ),
-        TraceFault::NoMemory => (
-            String::from_str(alloc, "memory ran out [32 NoMemory]\n")?,
-            "Free some memory.\n",
-        ),
+    let mut text = String::new(alloc);
+    let advice = match fault {
+        TraceFault::BadEvent(line) => {
+            write!(text, "the line spells no event [30 BadEvent at {line}]\n")?;
+            "Write an event as `put 0 1 7`: words with one space between them, and a line feed.\n"
+        }
+        TraceFault::BadHead => {
+            text.push_str("the file does not begin as a trace does [31 BadHead]\n")?;
+            "Begin with `kpn-trace 1`, or with `kpn-trace 2` and a line `policy cycles grow one`.\n"
+        }
+        TraceFault::NoMemory => {
+            text.push_str("memory ran out [32 NoMemory]\n")?;
+            "Free some memory.\n"
+        }
     };
-    let mut text = said.into_bytes();
-    push_excerpt(&mut text, bytes, at)?;
-    text.extend_from_slice(advice.as_bytes())?;
-    Ok(text)
+    with_line(text, bytes, at, advice)
 }
 
 /// What is wrong with event `k` of a trace: where, what, the line and a caret, and some advice.
@@ -117,20 +113,21 @@ pub(crate) fn illegal_text(
     let event = trace.events.as_slice()[k];
     let at = line_start(bytes, k + head_lines(trace.version) + 1);
     let said = sentence(alloc, document, trace.version, k, event, scene)?;
-    let rest = with_line(said, bytes, at)?;
+    let rest = with_line(said, bytes, at, NO_LONGER_LEGAL)?;
     let mut text = Vec::new(alloc);
     push_where(&mut text, name, bytes, at)?;
     text.extend_from_slice(&rest)?;
     Ok(text)
 }
 
-// What is said of an event, its line, and some advice.
-fn with_line(said: String, bytes: &[u8], at: usize) -> Result<Vec<u8>, AllocError> {
+const NO_LONGER_LEGAL: &str =
+    "The events before this line are a legal history, and with it they are none.\n";
+
+// What is said, the line of this byte, and some advice.
+fn with_line(said: String, bytes: &[u8], at: usize, advice: &str) -> Result<Vec<u8>, AllocError> {
     let mut text = said.into_bytes();
     push_excerpt(&mut text, bytes, at)?;
-    text.extend_from_slice(
-        b"The events before this line are a legal history, and with it they are none.\n",
-    )?;
+    text.extend_from_slice(advice.as_bytes())?;
     Ok(text)
 }
 
