@@ -10,7 +10,7 @@ use std::alloc::AllocError;
 const BRACES: &[u8] =
     b"A block stands in braces: `if (x < y) { x = y; } else { }`, `while 1 { read i x; }`.";
 
-const CLOSING: &[u8] = b"Close each `{` by a `}`: one is missing before this.";
+const RIGHT_BRACE: &[u8] = b"Close each `{` by a `}`: one is missing before this.";
 
 const SEMICOLON: &[u8] =
     b"Each statement and each item of a network ends with `;`: one is missing before this.";
@@ -31,7 +31,7 @@ pub(crate) fn help_if_left_out(
         return Ok(Some(BRACES));
     }
     if is_word(back(text, at), &[b"process", b"network"]) && may_stand(alloc, front, b"}")? {
-        return Ok(Some(CLOSING));
+        return Ok(Some(RIGHT_BRACE));
     }
     if line_before(text, at).iter().all(|byte| is_blank(*byte)) && may_stand(alloc, front, b";")? {
         return Ok(Some(SEMICOLON));
