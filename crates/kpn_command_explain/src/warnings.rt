@@ -234,7 +234,8 @@ impl<'s, 'd, 'a> Described<'s, 'd, 'a> {
         let Some(member) = self.members.get(p).copied() else {
             return Ok(());
         };
-        push_all(told, &[b"`", member.instance.name.bytes, b"`"])?;
+        let instance = member.instance;
+        push_all(told, &[b"`", instance.name.bytes, b"`"])?;
         told.extend_from_slice(moves)?;
         let mut buffer = Buffer::new();
         told.extend_from_slice(buffer.format(count).as_bytes())?;
